@@ -1,0 +1,4 @@
+pub mod Cells
+pub mod Field
+pub mod Inverse
+pub mod Schedule

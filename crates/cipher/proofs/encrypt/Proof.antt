@@ -1,0 +1,15 @@
+-- `encrypt` is right from what the expansion and the cipher ensure.
+-- Assumes nothing.
+use Rattle.cipher.specs.Cipher.{aes256}
+use borrow.Author.Needs.{needs}
+use Rattle.cipher.proofs.encrypt.Statement.{statement}
+use Rattle.cipher.proofs.encrypt.Tie as tie
+
+returns : tie.Need-returns
+unfolding aes256
+returns c = cc
+
+pub encrypt-spec : {M : Type 1} → statement M
+encrypt-spec =
+    tie.close
+    (tie.spec (λ c κs. search needs) (λ c κs. search needs) returns)

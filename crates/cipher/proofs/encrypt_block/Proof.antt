@@ -1,0 +1,37 @@
+-- `encrypt_block` is right because after n turns the state is that of `rounds` after n rounds.
+-- Assumes nothing.
+use mathlib.Core.Path.{_≡_, refl}
+use Prim.Native.Nat.{_-_, _≤_}
+use native.Mathlib.Numerals.{add-one}
+use native.Mathlib.Omega.{arith}
+use Rattle.cipher.specs.Cipher.{rounds, cipher}
+use borrow.Author.Needs.{needs}
+use Rattle.cipher.proofs.encrypt_block.Statement.{statement}
+use Rattle.cipher.proofs.encrypt_block.Tie as tie
+
+abbrev Inv-loop : tie.InvT-loop
+Inv-loop expanded table s₀ n₀ s n = (n ≤ 13) × (s ≡ rounds expanded n s₀)
+
+abbrev μ-loop : tie.MeasureT-loop
+μ-loop expanded table s₀ n₀ s n = 13 - n
+
+loop-holds : tie.Need-loop-holds Inv-loop μ-loop
+unfolding rounds
+loop-holds c = (search needs, refl)
+
+loop-again : tie.Need-loop-again Inv-loop μ-loop
+unfolding rounds
+loop-again c = (search needs, rw add-one (cc (add-one (c .before .before .before .loop .n))))
+
+returns : tie.Need-returns Inv-loop μ-loop
+unfolding cipher
+returns c =
+    let e : c .before .before .before .before .before .loop .n ≡ 13 = omega arith in
+    cc
+
+pub encrypt-block-spec : {M : Type 1} → statement M
+encrypt-block-spec =
+    tie.close
+    (tie.spec Inv-loop μ-loop (λ c κs. search needs) (λ c κs. search needs) loop-holds (λ c. search needs)
+    (λ c κs. search needs) (λ c. search needs) (λ c. search needs) loop-again (λ c κs. search needs)
+    (λ c κs. search needs) (λ c κs. search needs) returns)

@@ -1,0 +1,8 @@
+pub mod AddRoundKey
+pub mod Cipher
+pub mod Field
+pub mod KeyExpansion
+pub mod MixColumns
+pub mod ShiftRows
+pub mod State
+pub mod SubBytes
