@@ -11,6 +11,7 @@ use lib.Seq.{sets, sets-eq, take-at, take-all, length-take-le, getD-take}
 use Rattle.octets.specs.Lists.{octet, tab}
 use Rattle.octets.specs.Xor.{xors}
 use Rattle.octets.proofs.Rules.{tab-ext}
+use Rattle.cipher.specs.KeyExpansion.Opened.{keyExpansion-is}
 use Rattle.cipher.specs.KeyExpansion.{word, temp, nextWord, expandedBy, keyExpansion}
 
 -- a word that lies within the first m octets
@@ -70,7 +71,6 @@ scheduled-more key w t n h e g =
     }
 
 pub scheduled-all : (key w : List ℕ) (n : ℕ) → 52 ≤ n → Scheduled key w n → w ≡ keyExpansion key
-unfolding keyExpansion
 scheduled-all key w n h g =
     let e : n ≡ 52 = omega arith in
-    sym (take-all (4 * (8 + n)) w (omega (arith, g .long))) ∙ g .front ∙ ap (λ (k : ℕ). expandedBy k key) e
+    sym (take-all (4 * (8 + n)) w (omega (arith, g .long))) ∙ g .front ∙ ap (λ (k : ℕ). expandedBy k key) e ∙ sym (keyExpansion-is key)

@@ -1,5 +1,7 @@
 -- FIPS 197, 5.1: the Cipher, figure 5 with Nr = 14, and AES-256.
+-- `cipher` and `aes256` are shut: a layer above cannot look into them, and rests on the laws of proofs/Laws alone.
 -- Assumes nothing.
+pub mod Opened
 use Prim.Native.Nat.{ℕ, zero, suc}
 use mathlib.Core.List.{List}
 use Rattle.cipher.specs.SubBytes.{subBytes}
@@ -18,9 +20,9 @@ rounds w zero s = s
 rounds w (suc n) s = round w (suc n) (rounds w n s)
 
 -- the block under the expanded key w; the last round has no MixColumns
-unfoldable pub cipher : List ℕ → List ℕ → List ℕ
+pub cipher : List ℕ → List ℕ → List ℕ
 cipher w block = addRoundKey w 14 (shiftRows (subBytes (rounds w 13 (addRoundKey w 0 block))))
 
 -- AES-256 of the block under the key
-unfoldable pub aes256 : List ℕ → List ℕ → List ℕ
+pub aes256 : List ℕ → List ℕ → List ℕ
 aes256 key block = cipher (keyExpansion key) block

@@ -1,5 +1,6 @@
 -- FIPS 197, 5.2: KeyExpansion, figure 11 with Nk = 8, Nb = 4 and Nr = 14: the 8 words of the key, and 52 words made of them.
 -- Assumes nothing.
+pub mod Opened
 use Prim.Native.Nat.{ℕ, zero, suc, _+_, _-_, _*_, _/_, _%_}
 use mathlib.Core.Bool.{cond}
 use mathlib.Core.List.{List, [], _∷_, _++_}
@@ -44,5 +45,5 @@ expandedBy (suc n) key =
     let w : List ℕ = expandedBy n key in
     w ++ nextWord w (8 + n)
 
-unfoldable pub keyExpansion : List ℕ → List ℕ
+pub keyExpansion : List ℕ → List ℕ
 keyExpansion key = expandedBy 52 key

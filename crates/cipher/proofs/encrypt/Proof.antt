@@ -1,13 +1,14 @@
 -- `encrypt` is right from what the expansion and the cipher ensure.
 -- Assumes nothing.
-use Rattle.cipher.specs.Cipher.{aes256}
+use Rattle.cipher.specs.Cipher.Opened.{aes256-is}
 use borrow.Author.Needs.{needs}
 use Rattle.cipher.proofs.encrypt.Statement.{statement}
 use Rattle.cipher.proofs.encrypt.Tie as tie
 
 returns : tie.Need-returns
-unfolding aes256
-returns c = cc
+returns c =
+    let given = c .before .before .before .args in
+    cc (aes256-is (given .key) (given .block))
 
 pub encrypt-spec : {M : Type 1} → statement M
 encrypt-spec =

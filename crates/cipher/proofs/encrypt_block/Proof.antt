@@ -4,7 +4,8 @@ use mathlib.Core.Path.{_≡_, refl}
 use Prim.Native.Nat.{_-_, _≤_}
 use native.Mathlib.Numerals.{add-one}
 use native.Mathlib.Omega.{arith}
-use Rattle.cipher.specs.Cipher.{rounds, cipher}
+use Rattle.cipher.specs.Cipher.{rounds}
+use Rattle.cipher.specs.Cipher.Opened.{cipher-is}
 use borrow.Author.Needs.{needs}
 use Rattle.cipher.proofs.encrypt_block.Statement.{statement}
 use Rattle.cipher.proofs.encrypt_block.Tie as tie
@@ -24,10 +25,10 @@ unfolding rounds
 loop-again c = (search needs, rw add-one (cc (add-one (c .before .before .before .loop .n))))
 
 returns : tie.Need-returns Inv-loop μ-loop
-unfolding cipher
 returns c =
     let e : c .before .before .before .before .before .loop .n ≡ 13 = omega arith in
-    cc
+    let given = c .before .before .before .before .before .before .before .before .args in
+    cc (cipher-is (given .expanded .now) (given .block))
 
 pub encrypt-block-spec : {M : Type 1} → statement M
 encrypt-block-spec =
