@@ -1,3 +1,5 @@
 pub mod Bounds
 pub mod Rules
+pub mod Sameness
 pub mod Tables
+pub mod XorLaws
