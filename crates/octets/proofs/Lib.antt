@@ -1,4 +1,5 @@
 pub mod Bounds
+pub mod Parts
 pub mod Rules
 pub mod Sameness
 pub mod Tables

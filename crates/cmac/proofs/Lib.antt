@@ -1,0 +1,4 @@
+pub mod Chaining
+pub mod Cuts
+pub mod Laws
+pub mod Reduction

@@ -1,0 +1,43 @@
+// CMAC (NIST SP 800-38B) with AES-256 and a MAC of 16 octets. A message is given as two parts that lie apart, a head and a body, and is
+// never copied: each block is read from where it lies.
+mod blocks;
+mod message;
+mod subkeys;
+
+use blocks::xor_blocks;
+use cipher::encrypt_block;
+use cipher::expand_key;
+use message::block_count;
+use message::message_block;
+use octets::same_block;
+use subkeys::next_subkey;
+ghost use mathlib.Core.Path.{_≡_};
+ghost use mathlib.Core.List.{_++_};
+ghost use Rattle.octets.specs.Same.{same};
+ghost use Rattle.cmac.specs.Mac.{cmac};
+
+// The MAC of the message (6.2). The subkeys come first, from the block of zeros under the cipher (6.1); after i turns `chained` is C_i.
+pub fn mac(key: [u8; 32], head: &[u8], body: &[u8]) -> [u8; 16]
+    ensures { λ r. ⌜ r ≡ cmac key (now (head .entry) ++ now (body .entry)) ⌝ }
+{
+    let expanded = expand_key(key);
+    let first = next_subkey(encrypt_block(&expanded, [0u8; 16]));
+    let second = next_subkey(first);
+    let count = block_count(head.len() + body.len());
+    let mut chained = [0u8; 16];
+    let mut i: usize = 0;
+    while i < count {
+        let block = message_block(first, second, head, body, i);
+        let next = encrypt_block(&expanded, xor_blocks(chained, block));
+        chained = next;
+        i += 1;
+    }
+    chained
+}
+
+// Whether `mac` is the MAC of the message (6.3). All sixteen octets are compared.
+pub fn check(key: [u8; 32], head: &[u8], body: &[u8], mac: [u8; 16]) -> bool
+    ensures { λ r. ⌜ r ≡ same (cmac key (now (head .entry) ++ now (body .entry))) mac ⌝ }
+{
+    same_block(crate::mac(key, head, body), mac)
+}
