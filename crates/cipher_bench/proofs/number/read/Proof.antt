@@ -1,0 +1,20 @@
+-- `read` is safe and ends because the index rises up to the length; `longer` sees to it that the number fits.
+-- Assumes nothing.
+use Prim.Native.Nat.{_-_, _≤_}
+use lib.ListN.{length}
+use borrow.Author.Needs.{needs}
+use Rattle.cipher_bench.proofs.number.read.Statement.{statement}
+use Rattle.cipher_bench.proofs.number.read.Tie as tie
+
+abbrev Inv-loop : tie.InvT-loop
+Inv-loop digits n₀ i₀ n i = i ≤ length digits
+
+abbrev μ-loop : tie.MeasureT-loop
+μ-loop digits n₀ i₀ n i = length digits - i
+
+pub read-spec : {M : Type 1} → statement M
+read-spec =
+    tie.close
+    (tie.spec Inv-loop μ-loop (λ c. search needs) (λ c. search needs) (λ c. search needs) (λ c κs. search needs)
+    (λ c. search needs) (λ c. search needs) (λ c. search needs) (λ c. search needs) (λ c. search needs)
+    (λ c. search needs) (λ c. search needs))
