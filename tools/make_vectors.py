@@ -1,42 +1,62 @@
 #!/usr/bin/env python3
-"""Makes the data of crates/cipher_vectors that comes from NIST's published response files.
+"""Makes the data of crates/cipher_vectors that comes from NIST's published files.
 
-  python3 tools/make_vectors.py FOLDER-WITH-RSP-FILES
+  python3 tools/make_vectors.py FOLDER
 
-Each ECB*256.rsp gives a file of its name: a line `KEY BLOCK RESULT` for each block of its [ENCRYPT] section, in hex,
-in the order of the section. A message of several blocks gives a line for each block, with the key on each.
-FIPS197A3.txt and FIPS197C3.txt are typed from the appendices of FIPS 197, and this script leaves them alone.
+FOLDER has the files as they were published: ECB*256.rsp and gcmEncryptExtIV256.rsp of the validation suites (of the
+latter the entries with an IV of 96 bits and a tag of 128), and the AES-256 examples of SP 800-38B. Each gives a file with
+a line for a vector, in hex, in the order of the publication:
+
+  ECB*256.txt              KEY BLOCK RESULT      the [ENCRYPT] section; a line for each block of a message
+  SP80038B.txt             KEY MESSAGE MAC
+  gcmEncryptExtIV256.txt   KEY IV PLAINTEXT ADDITIONAL CIPHERTEXT TAG
+
+FIPS197A3.txt and FIPS197C3.txt are typed from the appendices of FIPS 197, and GCM13to16.txt from the test cases of the
+GCM specification; this script leaves them alone.
 """
 import pathlib
 import re
 import sys
 
-NAMES = ["ECBGFSbox256", "ECBKeySbox256", "ECBVarTxt256", "ECBVarKey256", "ECBMMT256"]
 DATA = pathlib.Path(__file__).resolve().parent.parent / "crates" / "cipher_vectors" / "data"
 BLOCK = 32  # digits of a block
-RECORD = re.compile(r"KEY = ([0-9a-f]{64})\nPLAINTEXT = ([0-9a-f]+)\nCIPHERTEXT = ([0-9a-f]+)\n")
+ECB = ["ECBGFSbox256", "ECBKeySbox256", "ECBVarTxt256", "ECBVarKey256", "ECBMMT256"]
 
 
-def lines(text):
-    """The lines of the file that a response file's text gives."""
-    section = text.replace("\r\n", "\n").split("[ENCRYPT]")[1].split("[DECRYPT]")[0]
-    found = RECORD.findall(section)
-    if len(found) != section.count("COUNT = "):
-        sys.exit("a record is not of the form KEY, PLAINTEXT, CIPHERTEXT")
-    for key, plain, secret in found:
-        if len(plain) % BLOCK != 0 or len(plain) != len(secret):
-            sys.exit("a message is not of whole blocks: " + plain)
-        for at in range(0, len(plain), BLOCK):
-            yield f"{key} {plain[at:at + BLOCK]} {secret[at:at + BLOCK]}\n"
+def records(text, names):
+    """What stands behind the given names, record by record; every record must have them all, in this order."""
+    found = re.findall("".join(rf"{name} = ?([0-9a-f]*)\n" for name in names), text)
+    if len(found) != len(re.findall(r"(?im)^count = ", text)):
+        sys.exit("a record is not of the form " + ", ".join(names))
+    return found
+
+
+def blocks(record):
+    """The lines of a message of whole blocks."""
+    key, plain, secret = record
+    if len(plain) % BLOCK != 0 or len(plain) != len(secret):
+        sys.exit("a message is not of whole blocks: " + plain)
+    for at in range(0, len(plain), BLOCK):
+        yield (key, plain[at:at + BLOCK], secret[at:at + BLOCK])
+
+
+def write(name, made):
+    (DATA / f"{name}.txt").write_text("".join(" ".join(line) + "\n" for line in made))
+    print(f"{name}: {len(made)}")
 
 
 def main():
     if len(sys.argv) != 2:
         sys.exit(__doc__)
-    for name in NAMES:
-        made = list(lines((pathlib.Path(sys.argv[1]) / f"{name}.rsp").read_text()))
-        (DATA / f"{name}.txt").write_text("".join(made))
-        print(f"{name}: {len(made)}")
+
+    def read(name):
+        return (pathlib.Path(sys.argv[1]) / name).read_text().replace("\r\n", "\n") + "\n"
+
+    for name in ECB:
+        section = read(f"{name}.rsp").split("[ENCRYPT]")[1].split("[DECRYPT]")[0]
+        write(name, [line for record in records(section, ["KEY", "PLAINTEXT", "CIPHERTEXT"]) for line in blocks(record)])
+    write("SP80038B", records(read("nist-800-38b-aes256.txt"), ["KEY", "MESSAGE", "OUTPUT"]))
+    write("gcmEncryptExtIV256", records(read("gcmEncryptExtIV256-iv96-tag128.rsp"), ["Key", "IV", "PT", "AAD", "CT", "Tag"]))
 
 
 main()

@@ -1,8 +1,7 @@
 -- Worked examples of FIPS 197, which antt computes from the definitions.
 -- Assumes nothing.
 use mathlib.Core.Path.{_≡_, refl}
-use mathlib.Core.List.{List, [], _∷_}
-use Prim.Native.Nat.{ℕ}
+use mathlib.Core.List.{[], _∷_}
 use Rattle.octets.specs.Lists.{tab}
 use Rattle.octets.specs.Xor.{_⊕_}
 use Rattle.cipher.specs.Field.{xtime, mulBits, _•_, _⊗_}

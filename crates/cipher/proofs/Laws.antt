@@ -1,13 +1,13 @@
 -- What the layers above rest on: AES-256 under an expanded key, the length of a block, and that its numbers are octets.
 -- Assumes nothing.
-use mathlib.Core.Path.{_≡_, _∙_, sym, ap, subst}
+use mathlib.Core.Path.{_≡_, _∙_, sym, ap}
 use mathlib.Core.List.{List}
 use Prim.Native.Nat.{ℕ}
 use lib.ListN.{length}
 use Rattle.octets.specs.Lists.{Octets}
 use Rattle.octets.proofs.Rules.{length-tab}
 use Rattle.cipher.specs.AddRoundKey.{addRoundKey}
-use Rattle.cipher.specs.KeyExpansion.{expandedBy, keyExpansion}
+use Rattle.cipher.specs.KeyExpansion.{keyExpansion}
 use Rattle.cipher.specs.KeyExpansion.Opened.{keyExpansion-is}
 use Rattle.cipher.specs.Cipher.{cipher, aes256}
 use Rattle.cipher.specs.Cipher.Opened.{cipher-is, aes256-is}

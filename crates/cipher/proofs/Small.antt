@@ -6,11 +6,11 @@ use mathlib.Core.List.{List, [], _∷_}
 use Prim.Native.Nat.{ℕ, zero, suc, _+_, _-_, _*_, _/_, _%_, _^_, _≤_, _<_}
 use native.Mathlib.Nat.{mul-le-mul-right, pow-suc}
 use native.Mathlib.Omega.{arith}
-use borrow.Author.Tests.{ltb-true, ltb-false}
+use borrow.Author.Tests.{ltb-true}
 use lib.Bits.{xor-lt}
 use lib.Dec.{ltb, eqb, lit<}
-use Rattle.octets.specs.Lists.{octet, tab, Octets}
-use Rattle.octets.specs.Xor.{_⊕_, xors}
+use Rattle.octets.specs.Lists.{octet, Octets}
+use Rattle.octets.specs.Xor.{_⊕_}
 use Rattle.octets.proofs.Bounds.{octets-nil, octets-cons, octets-append, octets-cond, octets-tab, octets-xors}
 use Rattle.cipher.specs.Field.{xtime, powerOfX}
 use Rattle.cipher.specs.State.{at}

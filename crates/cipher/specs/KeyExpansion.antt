@@ -1,7 +1,7 @@
 -- FIPS 197, 5.2: KeyExpansion, figure 11 with Nk = 8, Nb = 4 and Nr = 14: the 8 words of the key, and 52 words made of them.
 -- Assumes nothing.
 pub mod Opened
-use Prim.Native.Nat.{ℕ, zero, suc, _+_, _-_, _*_, _/_, _%_}
+use Prim.Native.Nat.{ℕ, zero, suc, _+_, _-_, _/_, _%_}
 use mathlib.Core.Bool.{cond}
 use mathlib.Core.List.{List, [], _∷_, _++_}
 use lib.Dec.{eqb}

@@ -3,7 +3,6 @@
 use mathlib.Core.Path.{_≡_}
 use mathlib.Core.List.{List}
 use Prim.Native.Nat.{ℕ, zero, suc, _+_, _*_, _/_, _%_, _^_, _<_}
-use Rattle.octets.specs.Lists.{octet}
 use Rattle.octets.specs.Xor.{_⊕_}
 use Rattle.cipher.specs.Field.{_•_}
 use Rattle.cipher.specs.State.{at, state}

@@ -1,5 +1,13 @@
 // Octets that a text spells in hex, in lower case.
 ghost use Prim.Native.Nat.{_≤_};
+ghost use Rattle.io.specs.Counts.{Counts};
+
+// A part of a line that was read: so many octets, and where the next part begins.
+pub(crate) struct Part {
+    pub is_right: bool,
+    pub count: usize,
+    pub next: usize,
+}
 
 // What a digit stands for, or 16 where the character is no digit.
 fn digit(c: u8) -> u8
@@ -42,4 +50,44 @@ pub(crate) fn field(text: &[u8], at: usize, out: &mut [u8], end: u8) -> bool {
         i += 1;
     }
     text[at + 2 * i] == end
+}
+
+// Fills the front of `out` with the octets that the text spells from index `at` on, as many as there are before the character `end`.
+// Not right where another character comes first, or there are more octets than `out` has room for.
+pub(crate) fn read_part(text: &[u8], at: usize, out: &mut [u8], end: u8) -> Part
+    ensures { λ r. ⌜ Counts (r .count) (now (out .exit)) ⌝ }
+{
+    let mut next = at;
+    let mut count: usize = 0;
+    while next < text.len() {
+        if text[next] == end {
+            return Part {
+                is_right: true,
+                count,
+                next: next + 1,
+            };
+        }
+        if out.len() <= count {
+            break;
+        }
+        if text.len() - next < 2 {
+            break;
+        }
+        let high = digit(text[next]);
+        let low = digit(text[next + 1]);
+        if high == 16 {
+            break;
+        }
+        if low == 16 {
+            break;
+        }
+        out[count] = 16 * high + low;
+        count += 1;
+        next += 2;
+    }
+    Part {
+        is_right: false,
+        count: 0,
+        next: 0,
+    }
 }

@@ -1,14 +1,53 @@
 // Runs published vectors, and writes a line for each file of them: how many it ran, and how many differ.
-mod aes;
+mod blocks;
+mod files;
 mod hex;
+mod macs;
+mod seals;
 mod tally;
+mod text;
+
+use files::Test;
+use files::run;
+use seals::Trial;
+
+fn encryptions(path: &[u8], name: &[u8]) {
+    run(Test::Encryption, path, name, b"encryptions");
+}
+
+// A file of GCM's vectors, sealed, opened, and refused with a bit changed.
+fn entries(path: &[u8], name: &[u8]) {
+    run(Test::Seal(Trial::Sealed), path, name, b"seals");
+    run(Test::Seal(Trial::Opened), path, name, b"openings");
+    run(
+        Test::Seal(Trial::TagChanged),
+        path,
+        name,
+        b"refusals of a changed tag",
+    );
+    run(
+        Test::Seal(Trial::CiphertextChanged),
+        path,
+        name,
+        b"refusals of a changed ciphertext",
+    );
+    run(
+        Test::Seal(Trial::AdditionalChanged),
+        path,
+        name,
+        b"refusals of changed additional data",
+    );
+}
 
 fn main() {
-    aes::expansion(b"FIPS 197 A.3", b"FIPS197A3.txt");
-    aes::encryptions(b"FIPS 197 C.3", b"FIPS197C3.txt");
-    aes::encryptions(b"ECBGFSbox256", b"ECBGFSbox256.txt");
-    aes::encryptions(b"ECBKeySbox256", b"ECBKeySbox256.txt");
-    aes::encryptions(b"ECBVarTxt256", b"ECBVarTxt256.txt");
-    aes::encryptions(b"ECBVarKey256", b"ECBVarKey256.txt");
-    aes::encryptions(b"ECBMMT256", b"ECBMMT256.txt");
+    run(Test::Word, b"FIPS197A3.txt", b"FIPS 197 A.3", b"words");
+    encryptions(b"FIPS197C3.txt", b"FIPS 197 C.3");
+    encryptions(b"ECBGFSbox256.txt", b"ECBGFSbox256");
+    encryptions(b"ECBKeySbox256.txt", b"ECBKeySbox256");
+    encryptions(b"ECBVarTxt256.txt", b"ECBVarTxt256");
+    encryptions(b"ECBVarKey256.txt", b"ECBVarKey256");
+    encryptions(b"ECBMMT256.txt", b"ECBMMT256");
+    run(Test::Mac, b"SP80038B.txt", b"SP 800-38B", b"MACs");
+    entries(b"GCM13to16.txt", b"GCM test cases 13 to 16");
+    entries(b"gcmEncryptExtIV256.txt", b"gcmEncryptExtIV256");
 }

@@ -1,15 +1,25 @@
 // How the vectors of a file went, and the line that says so.
 use libc::STDOUT_FILENO;
 
-// What came of reading the next vector of a file and running it.
-pub(crate) enum Next {
-    Ran { is_right: bool },
-    End,
+// What came of a vector.
+pub(crate) enum Outcome {
+    Right,
+    Differs,
+    // it has nothing that the test could change
+    Skipped,
+}
+
+pub(crate) fn right_if(is_right: bool) -> Outcome {
+    if is_right {
+        Outcome::Right
+    } else {
+        Outcome::Differs
+    }
 }
 
 pub(crate) struct Tally {
-    ran: u64,
-    differ: u64,
+    pub ran: u64,
+    pub differ: u64,
 }
 
 // One more, up to the largest number, so that no count goes back to 0.
@@ -22,17 +32,17 @@ impl Tally {
         Tally { ran: 0, differ: 0 }
     }
 
-    pub fn with(self, is_right: bool) -> Tally {
-        let ran = more(self.ran);
-        if is_right {
-            return Tally {
-                ran,
+    pub fn with(self, outcome: Outcome) -> Tally {
+        match outcome {
+            Outcome::Right => Tally {
+                ran: more(self.ran),
                 differ: self.differ,
-            };
-        }
-        Tally {
-            ran,
-            differ: more(self.differ),
+            },
+            Outcome::Differs => Tally {
+                ran: more(self.ran),
+                differ: more(self.differ),
+            },
+            Outcome::Skipped => self,
         }
     }
 

@@ -1,4 +1,5 @@
 pub mod Bounds
+pub mod Numbers
 pub mod Parts
 pub mod Rules
 pub mod Sameness

@@ -3,10 +3,10 @@
 use mathlib.Core.Path.{_≡_, _∙_, refl, ap, sym}
 use mathlib.Core.List.{List, [], _∷_, _++_, append-nil, append-assoc}
 use Prim.Native.Nat.{ℕ, zero, suc, _+_, _-_, _≤_}
-use native.Mathlib.Nat.{add-zero, add-suc}
+use native.Mathlib.Nat.{add-zero, add-suc, le-refl}
 use native.Mathlib.Omega.{arith}
 use lib.ListN.{length, set, take, drop, length-drop}
-use lib.Seq.{getD-append-add, take-suc, getD-drop, set-at, append-snoc}
+use lib.Seq.{getD-append-add, take-suc, take-length, getD-drop, set-at, append-snoc}
 use Rattle.octets.specs.Lists.{octet, tab}
 use Rattle.octets.proofs.Rules.{length-tab, tab-ext}
 
@@ -16,18 +16,21 @@ octet-past a b i h =
     let e : i ≡ length a + (i - length a) = omega arith in
     ap (octet (a ++ b)) e ∙ getD-append-add a b (i - length a) 0
 
--- the octets of a list, taken one by one, are its front, and from a place on, that part of it
+-- the octets of a list, taken one by one, are its front, the list itself if all are taken, and from a place on, that part of it
 tab-octets : (n : ℕ) (s : List ℕ) → n ≤ length s → tab n (octet s) ≡ take n s
 unfolding tab
 tab-octets zero s h = refl
 tab-octets (suc n) s h = ap (λ (p : List ℕ). p ++ (octet s n ∷ [])) (tab-octets n s (omega arith)) ∙ sym (take-suc s n 0 (omega arith))
+
+pub tab-self : (s : List ℕ) → tab (length s) (octet s) ≡ s
+tab-self s = tab-octets (length s) s (le-refl (length s)) ∙ take-length s
 
 pub tab-part : (n at : ℕ) (s : List ℕ) → at + n ≤ length s → tab n (λ j. octet s (at + j)) ≡ take n (drop at s)
 tab-part n at s h =
     tab-ext n (λ j k. sym (getD-drop at s j 0)) ∙ tab-octets n (drop at s) (simp length-drop (omega arith))
 
 -- a list by rule is its first octets and then the others, so the octet between them can be replaced
-tab-add : (n k : ℕ) (f : ℕ → ℕ) → tab (n + k) f ≡ tab n f ++ tab k (λ j. f (n + j))
+pub tab-add : (n k : ℕ) (f : ℕ → ℕ) → tab (n + k) f ≡ tab n f ++ tab k (λ j. f (n + j))
 unfolding tab
 tab-add n zero f = rw (add-zero, append-nil)
 tab-add n (suc k) f = rw (add-suc, tab-add n k f) (append-assoc (tab n f) (tab k (λ j. f (n + j))) (f (n + k) ∷ []))
