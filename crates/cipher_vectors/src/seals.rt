@@ -67,55 +67,56 @@ fn is_opened(
     check::same(&out[..n], plain)
 }
 
-// A changed entry: both the check and the opening must say that the tag is wrong, and the output stay as it was. One with nothing to
-// change is passed over.
-fn refused(
-    is_changed: bool,
+// Both the check and the opening must say that the tag is wrong, and the output stay as it was.
+fn is_refused(
     key: [u8; 32],
     iv: [u8; 12],
     additional: &[u8],
     ciphertext: &[u8],
     tag: [u8; 16],
-) -> Outcome {
-    if !is_changed {
-        return Outcome::Skipped;
-    }
+) -> bool {
     let before = [0xa5u8; 64];
     let mut out = before;
     let checked = gcm::check(key, iv, additional, ciphertext, tag);
     let gcm::Checked::Wrong = checked else {
-        return Outcome::Differs;
+        return false;
     };
     let outcome = gcm::open(key, iv, additional, ciphertext, tag, &mut out);
     let gcm::Outcome::Wrong = outcome else {
-        return Outcome::Differs;
+        return false;
     };
-    right_if(check::same(&out, &before))
+    check::same(&out, &before)
 }
 
-fn changed(
+// Changes what the trial is to change; false where there is nothing to change.
+fn alter(
     trial: Trial,
     n: u64,
-    key: [u8; 32],
-    iv: [u8; 12],
     additional: &mut [u8],
     ciphertext: &mut [u8],
-    tag: [u8; 16],
-) -> Outcome {
-    let mut other = tag;
+    tag: &mut [u8],
+) -> bool {
     match trial {
-        Trial::CiphertextChanged => {
-            let is_changed = change(ciphertext, n);
-            refused(is_changed, key, iv, additional, ciphertext, tag)
-        }
-        Trial::AdditionalChanged => {
-            let is_changed = change(additional, n);
-            refused(is_changed, key, iv, additional, ciphertext, tag)
-        }
-        _ => {
-            let is_changed = change(&mut other, n);
-            refused(is_changed, key, iv, additional, ciphertext, other)
-        }
+        Trial::TagChanged => change(tag, n),
+        Trial::CiphertextChanged => change(ciphertext, n),
+        Trial::AdditionalChanged => change(additional, n),
+        _ => true,
+    }
+}
+
+fn is_right(
+    trial: Trial,
+    key: [u8; 32],
+    iv: [u8; 12],
+    additional: &[u8],
+    plain: &[u8],
+    ciphertext: &[u8],
+    tag: [u8; 16],
+) -> bool {
+    match trial {
+        Trial::Sealed => is_sealed(key, iv, additional, plain, ciphertext, tag),
+        Trial::Opened => is_opened(key, iv, additional, plain, ciphertext, tag),
+        _ => is_refused(key, iv, additional, ciphertext, tag),
     }
 }
 
@@ -138,31 +139,17 @@ pub(crate) fn entry(trial: Trial, n: u64, line: &[u8]) -> Outcome {
     let p = p.count;
     let a = a.count;
     let c = c.count;
-    match trial {
-        Trial::Sealed => right_if(is_sealed(
-            key,
-            iv,
-            &additional[..a],
-            &plain[..p],
-            &ciphertext[..c],
-            tag,
-        )),
-        Trial::Opened => right_if(is_opened(
-            key,
-            iv,
-            &additional[..a],
-            &plain[..p],
-            &ciphertext[..c],
-            tag,
-        )),
-        _ => changed(
-            trial,
-            n,
-            key,
-            iv,
-            &mut additional[..a],
-            &mut ciphertext[..c],
-            tag,
-        ),
+    let plain = &plain[..p];
+    if !alter(
+        trial,
+        n,
+        &mut additional[..a],
+        &mut ciphertext[..c],
+        &mut tag,
+    ) {
+        return Outcome::Skipped;
     }
+    let additional = &additional[..a];
+    let ciphertext = &ciphertext[..c];
+    right_if(is_right(trial, key, iv, additional, plain, ciphertext, tag))
 }

@@ -15,5 +15,5 @@ slice-write-s c = mod-lt _ (omega arith)
 pub change-spec : {M : Type 1} → statement M
 change-spec =
     tie.close
-    (tie.spec (λ c. search needs) (λ c. search needs) slice-read-s (λ c. search needs) slice-write-s (λ c. search needs)
-    (λ c. search needs))
+    (tie.spec (λ c. search needs) (λ c. search needs) slice-read-s (λ c. search needs) slice-write-s (λ c. search
+    needs) (λ c. search needs))

@@ -12,6 +12,6 @@ slice-aggregate-same c = simp length-take (omega arith)
 pub is-sealed-spec : {M : Type 1} → statement M
 is-sealed-spec =
     tie.close
-    (tie.spec (λ c. search needs) (λ c. search needs) (λ c κs. search needs) (λ c. search needs) (λ c. search needs)
-    (λ c. search needs) slice-aggregate-same (λ c κs. search needs) (λ c. search needs) (λ c. search needs)
-    (λ c κs. search needs) (λ c. search needs) (λ c. search needs))
+    (tie.spec (λ c. search needs) (λ c. search needs) (λ c κs. search needs) (λ c. search needs) (λ c. search
+    needs) (λ c. search needs) slice-aggregate-same (λ c κs. search needs) (λ c. search needs) (λ c. search needs
+    ) (λ c κs. search needs) (λ c. search needs) (λ c. search needs))
