@@ -1,4 +1,6 @@
-// A chain of encryptions or of key expansions, for measuring: each works on what the one before gave, so none can be left out.
+// Chains of calls, for measuring: of the cipher alone, and of the modes that stand on it.
+mod chains;
+mod modes;
 mod number;
 
 use libc::STDOUT_FILENO;
@@ -17,69 +19,67 @@ fn print_line(octets: &[u8]) {
     io::write_all(STDOUT_FILENO, b"\n");
 }
 
-// Encrypts a block of zeros, then what that gave, and so on.
-fn chain_blocks(count: u64) -> [u8; 16] {
-    let expanded = cipher::expand_key(KEY);
-    let mut block = [0u8; 16];
-    let mut left = count;
-    while left > 0 {
-        let next = cipher::encrypt_block(&expanded, block);
-        block = next;
-        left -= 1;
-    }
-    block
-}
-
-// The last eight words of an expansion.
-fn last_words(expanded: &[u8; 240]) -> [u8; 32] {
-    let mut words = [0u8; 32];
-    let mut i: usize = 0;
-    while i < 32 {
-        words[i] = expanded[208 + i];
-        i += 1;
-    }
-    words
-}
-
-// Expands a key, then the last eight words of that as a key, and so on.
-fn chain_keys(count: u64) -> [u8; 32] {
-    let mut key = KEY;
-    let mut left = count;
-    while left > 0 {
-        let expanded = cipher::expand_key(key);
-        let next = last_words(&expanded);
-        key = next;
-        left -= 1;
-    }
-    key
-}
-
-fn run(what: &[u8], count: u64) -> bool {
+fn run_cipher(what: &[u8], count: u64) -> bool {
     if check::same(what, b"blocks") {
-        print_line(&chain_blocks(count));
+        print_line(&chains::blocks(KEY, count));
         return true;
     }
     if check::same(what, b"keys") {
-        print_line(&chain_keys(count));
+        print_line(&chains::keys(KEY, count));
         return true;
     }
     false
 }
 
-// Whether the arguments are a name and a count, and the chain was run.
+// The first message is all zeros.
+fn run_mode(what: &[u8], size: usize, count: u64) -> bool {
+    let mut message = [0u8; modes::MOST];
+    if modes::MOST < size {
+        return false;
+    }
+    if check::same(what, b"mac") {
+        print_line(&modes::macs(KEY, &mut message[..size], count));
+        return true;
+    }
+    if check::same(what, b"seal") {
+        print_line(&modes::seals(KEY, &mut message[..size], count));
+        return true;
+    }
+    false
+}
+
+fn number_at(place: usize) -> Count {
+    let mut digits = [0u8; 20];
+    let n = os::arg(place, &mut digits);
+    number::read(&digits[..n])
+}
+
+// Whether the arguments behind the name are right for it, and the chain was run.
+fn run_named(what: &[u8]) -> bool {
+    let Count::Is(first) = number_at(2) else {
+        return false;
+    };
+    if os::arg_count() == 3 {
+        return run_cipher(what, first);
+    }
+    let Count::Is(second) = number_at(3) else {
+        return false;
+    };
+    os::arg_count() == 4 && run_mode(what, first as usize, second)
+}
+
 fn run_arguments() -> bool {
     let mut what = [0u8; 8];
     let n = os::arg(1, &mut what);
-    let mut digits = [0u8; 20];
-    let m = os::arg(2, &mut digits);
-    let Count::Is(count) = number::read(&digits[..m]) else {
-        return false;
-    };
-    run(&what[..n], count)
+    run_named(&what[..n])
 }
 
 fn main() {
-    if os::arg_count() != 3 || !run_arguments() {
+    if !run_arguments() {
         io::write_all(STDOUT_FILENO, b"usage: cipher_bench blocks|keys COUNT\n");
+        io::write_all(
+            STDOUT_FILENO,
+            b"       cipher_bench mac|seal SIZE COUNT (a SIZE of at most 2048)\n",
+        );
     }
 }

@@ -2,8 +2,8 @@
 -- Assumes nothing.
 use Prim.Native.Nat.{_-_, _≤_}
 use borrow.Author.Needs.{needs}
-use Rattle.cipher_bench.proofs.last_words.Statement.{statement}
-use Rattle.cipher_bench.proofs.last_words.Tie as tie
+use Rattle.cipher_bench.proofs.chains.last_words.Statement.{statement}
+use Rattle.cipher_bench.proofs.chains.last_words.Tie as tie
 
 abbrev Inv-loop : tie.InvT-loop
 Inv-loop expanded words₀ i₀ words i = i ≤ 32
