@@ -1,0 +1,53 @@
+-- A masked header written to the front of an output, an octet a turn: after i turns the first i octets are its own and the rest stands.
+-- Assumes nothing.
+use mathlib.Core.Path.{_≡_, _∙_, sym, ap}
+use mathlib.Core.List.{List, [], _∷_, _++_}
+use Prim.Native.Nat.{ℕ, zero, suc, _+_, min, _≤_, _<_}
+use native.Mathlib.Nat.{zero-add, zero-min, min-zero, suc-min-suc}
+use native.Mathlib.Numerals.{add-one}
+use native.Mathlib.Omega.{arith}
+use borrow.Author.Tests.{le-leb, lt-leb}
+use lib.ListN.{length, set, take, drop, length-take}
+use lib.Seq.{paste-suc}
+use Rattle.octets.specs.Lists.{octet}
+use Rattle.frame.specs.Kinds.{Kind}
+use Rattle.frame.specs.Parts.{headerOf}
+use Rattle.frame.specs.Masked.{masked, maskedHeader, fronted, answered}
+use Rattle.frame.specs.declared.masked.Written.the-variants as answer
+use Rattle.frame.proofs.Masking.{length-masked, masked-take}
+
+pub front-more : (text old : List ℕ) (i : ℕ) → i < length text → i < length old
+    → set (take i text ++ drop i old) i (octet text i) ≡ take (i + 1) text ++ drop (i + 1) old
+front-more text old i t o = rw add-one (simp zero-add at (paste-suc old 0 text i 0 (omega arith) t))
+
+take-min : (n : ℕ) (s : List ℕ) → take (min n (length s)) s ≡ take n s
+take-min zero s = rw zero-min
+take-min (suc n) [] = rw min-zero
+take-min (suc n) (x ∷ s) = rw suc-min-suc (ap (λ (r : List ℕ). x ∷ r) (take-min n s))
+
+module _ (k : Kind) (mask frame old : List ℕ) (count : ℕ) (counted : count ≡ min (k .header frame) (length frame)) where
+  length-text : length (maskedHeader k mask frame) ≡ count
+  unfolding maskedHeader headerOf
+  length-text = length-masked mask (take (k .header frame) frame) ∙ length-take (k .header frame) frame ∙ sym counted
+
+  text-is : take count (masked mask frame) ≡ maskedHeader k mask frame
+  unfolding maskedHeader headerOf
+  text-is =
+      sym (masked-take mask frame count)
+      ∙ ap (masked mask) (ap (λ (n : ℕ). take n frame) counted ∙ take-min (k .header frame) frame)
+
+  pub without-room : length old < count → old ≡ fronted (maskedHeader k mask frame) old
+  unfolding fronted
+  without-room short = rw (length-text, lt-leb count (length old) short)
+
+  pub refused : length old < count → answer.NoRoom ≡ answered (maskedHeader k mask frame) old
+  unfolding answered
+  refused short = rw (length-text, lt-leb count (length old) short)
+
+  pub told : count ≤ length old → answer.Octets count ≡ answered (maskedHeader k mask frame) old
+  unfolding answered
+  told room = rw (length-text, le-leb count (length old) room)
+
+  pub with-room : count ≤ length old → take count (masked mask frame) ++ drop count old ≡ fronted (maskedHeader k mask frame) old
+  unfolding fronted
+  with-room room = rw (length-text, le-leb count (length old) room, text-is)

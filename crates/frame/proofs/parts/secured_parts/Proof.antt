@@ -1,0 +1,22 @@
+-- `secured_parts` is right because each of its numbers is one that the definition names, and a header is short, so no sum wraps.
+-- Assumes nothing.
+use native.Mathlib.Omega.{arith}
+use Rattle.frame.proofs.Sizes.{header-short}
+use borrow.Author.Needs.{needs}
+use Rattle.frame.proofs.parts.secured_parts.Statement.{statement}
+use Rattle.frame.proofs.parts.secured_parts.Tie as tie
+
+add-t7 : tie.Need-add-t7
+add-t7 c =
+    let given = c .before .before .before .before .args in
+    record { fits = omega (arith, header-short (given .kind) (given .frame .now)) }
+
+returns : tie.Need-returns
+returns c =
+    rw (c .less2 .ensures, c .before .less .ensures, c .before .before .trailer-length .ensures, c .before .before .before .header-length .ensures)
+
+pub secured-parts-spec : {M : Type 1} → statement M
+secured-parts-spec =
+    tie.close
+    (tie.spec (λ c κs. search needs) (λ c κs. search needs) (λ c κs. search needs) add-t7 (λ c κs. search needs)
+    returns)

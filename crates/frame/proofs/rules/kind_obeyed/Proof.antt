@@ -1,0 +1,38 @@
+-- `kind_obeyed` is right because it joins the four tests that the definition joins, and header and trailer are short, so no sum wraps.
+-- Assumes nothing.
+use native.Mathlib.Omega.{arith}
+use Rattle.frame.specs.Rules.{obeys}
+use Rattle.frame.proofs.Sizes.{header-short, trailer-short, least-short}
+use borrow.Author.Needs.{needs}
+use Rattle.frame.proofs.rules.kind_obeyed.Statement.{statement}
+use Rattle.frame.proofs.rules.kind_obeyed.Tie as tie
+
+add-least : tie.Need-add-least
+add-least c =
+    let given = c .before .before .before .args in
+    record { fits = omega (arith, header-short (given .kind) (given .frame .now), least-short (given .secured)) }
+
+add-least-2 : tie.Need-add-least-2
+add-least-2 c =
+    let given = c .before .before .before .before .args in
+    let header = header-short (given .kind) (given .frame .now) in
+    let trailer = trailer-short (given .kind) (given .frame .now) in
+    record { fits = omega (arith, header, least-short (given .secured), trailer) }
+
+returns : tie.Need-returns
+unfolding obeys
+returns c =
+    rw (
+      c .largest .ensures,
+      c .before .counts-length .ensures,
+      c .before .before .keeps-rules .ensures,
+      c .before .before .before .trailer-length .ensures,
+      c .before .before .before .before .least-between .ensures,
+      c .before .before .before .before .before .header-length .ensures,
+    )
+
+pub kind-obeyed-spec : {M : Type 1} → statement M
+kind-obeyed-spec =
+    tie.close
+    (tie.spec (λ c κs. search needs) (λ c κs. search needs) add-least (λ c κs. search needs) add-least-2
+    (λ c κs. search needs) (λ c κs. search needs) (λ c κs. search needs) returns)

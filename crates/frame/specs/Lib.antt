@@ -1,0 +1,5 @@
+pub mod Fields
+pub mod Kinds
+pub mod Masked
+pub mod Parts
+pub mod Rules

@@ -1,0 +1,42 @@
+// Document 01, 'Frames': the header as the MAC covers it, each octet ANDed with the mask.
+use crate::kinds::Kind;
+use crate::total::lesser;
+use crate::total::octet_at;
+ghost use mathlib.Core.Path.{_≡_};
+ghost use Rattle.octets.specs.Lists.{octet};
+ghost use Rattle.frame.specs.Kinds.{kindIs};
+ghost use Rattle.frame.specs.Masked.{masked, maskedHeader, fronted, answered};
+
+// What came of writing to an output: so many octets stand at its front, or it has no room for them and is as it was.
+pub enum Written {
+    Octets(usize),
+    NoRoom,
+}
+
+// Octet i under the mask; one that the mask does not reach is as it was.
+fn masked_octet(mask: &[u8], frame: &[u8], i: usize) -> u8
+    ensures { λ r. ⌜ r ≡ octet (masked (now (mask .entry)) (now (frame .entry))) i ⌝ }
+{
+    let x = octet_at(frame, i);
+    if i < mask.len() {
+        return x & mask[i];
+    }
+    x
+}
+
+// The masked header to the front of `out`, whose rest stays. Only the header's own
+// octets are masked, so a security header that lies in `out` behind them is not.
+pub fn mask_header(kind: Kind, mask: &[u8], frame: &[u8], out: &mut [u8]) -> Written
+    ensures { λ r. ⌜ (r ≡ answered (maskedHeader (kindIs kind) (now (mask .entry)) (now (frame .entry))) (now (out .entry))) × (now (out .exit) ≡ fronted (maskedHeader (kindIs kind) (now (mask .entry)) (now (frame .entry))) (now (out .entry))) ⌝ }
+{
+    let count = lesser(kind.header_length(frame), frame.len());
+    if out.len() < count {
+        return Written::NoRoom;
+    }
+    let mut i: usize = 0;
+    while i < count {
+        out[i] = masked_octet(mask, frame, i);
+        i += 1;
+    }
+    Written::Octets(count)
+}

@@ -1,0 +1,34 @@
+// Document 01, 'What comes back', answer 3: whether a frame obeys the kind that a number names.
+use crate::kinds::Kind;
+use crate::kinds::Named;
+use crate::kinds::kind_of;
+ghost use mathlib.Core.Path.{_≡_};
+ghost use Rattle.frame.specs.Kinds.{kindIs, kindOf};
+ghost use Rattle.frame.specs.Rules.{least, obeys};
+
+// The least octets between header and trailer: one of data, or the SPI.
+fn least_between(secured: bool) -> usize
+    ensures { λ r. ⌜ r ≡ least secured ⌝ }
+{
+    if secured { 2 } else { 1 }
+}
+
+fn kind_obeyed(kind: Kind, frame: &[u8], secured: bool) -> bool
+    ensures { λ r. ⌜ r ≡ obeys (kindIs kind) (now (frame .entry)) secured ⌝ }
+{
+    let least = kind.header_length(frame) + least_between(secured) + kind.trailer_length(frame);
+    kind.keeps_rules(frame)
+        & kind.counts_length(frame)
+        & (frame.len() <= kind.largest())
+        & (least <= frame.len())
+}
+
+// No frame obeys a number that names no kind.
+pub fn obeys(number: u8, frame: &[u8], secured: bool) -> bool
+    ensures { λ r. ⌜ r ≡ obeys (kindOf number) (now (frame .entry)) secured ⌝ }
+{
+    match kind_of(number) {
+        Named::Kind(kind) => kind_obeyed(kind, frame, secured),
+        Named::Nothing => false,
+    }
+}

@@ -1,0 +1,121 @@
+#!/usr/bin/env python3
+"""Makes crates/frame_cases/stdin, the frames, and crates/frame_cases/stdout, the answers expected on them.
+
+The answers are read off document 01 ('Frames', 'The image', 'What comes back') here, over strings of bits, and not off the code:
+
+  python3 tools/frame_cases.py
+"""
+import os
+
+TC_FIELDS = [("version", 2), ("bypass", 1), ("control", 1), ("spare", 2), ("spacecraft", 10), ("channel", 6), ("length", 10), ("sequence", 8)]
+SEGMENT_FIELDS = [("flags", 2), ("map", 6)]
+TM_FIELDS = [("version", 2), ("spacecraft", 10), ("channel", 3), ("ocf", 1), ("master", 8), ("virtual", 8), ("status", 16)]
+KINDS = {
+    1: dict(fields=TC_FIELDS, largest=1024, most=(1023, 63, 0)),
+    2: dict(fields=TC_FIELDS + SEGMENT_FIELDS, largest=1024, most=(1023, 63, 63)),
+    3: dict(fields=TM_FIELDS, largest=2048, most=(1023, 7, 0)),
+}
+
+
+def width(kind):
+    return sum(bits for _, bits in KINDS[kind]["fields"])
+
+
+def pack(kind, values):
+    bits = "".join(format(values.get(name, 0), "0%db" % n) for name, n in KINDS[kind]["fields"])
+    return bytes(int(bits[i : i + 8], 2) for i in range(0, len(bits), 8))
+
+
+def unpack(kind, frame):
+    need = width(kind)
+    bits = "".join(format(x, "08b") for x in frame[: need // 8]).ljust(need, "0")
+    values = {}
+    for name, n in KINDS[kind]["fields"]:
+        values[name], bits = int(bits[:n], 2), bits[n:]
+    return values
+
+
+def obeys(kind, frame, secured):
+    if kind not in KINDS:
+        return False
+    v, h = unpack(kind, frame), width(kind) // 8
+    f = 4 if kind == 3 and v["ocf"] else 0
+    if len(frame) < h + (2 if secured else 1) + f or len(frame) > KINDS[kind]["largest"] or v["version"]:
+        return False
+    if kind == 3:
+        return v["status"] < 2 ** 15
+    return v["control"] == 0 and v["spare"] == 0 and v["length"] == len(frame) - 1
+
+
+def holds_length(kind, frame):
+    """A TM frame has no length field, and fewer than four octets do not reach over that of TC."""
+    return kind != 3 and len(frame) >= 4
+
+
+def rewritten(kind, frame, n):
+    """The frame with its length field for n octets; the field holds ten bits, and what does not hold the field stays."""
+    if not holds_length(kind, frame):
+        return frame
+    bits = "".join(format(x, "08b") for x in frame[:4])
+    bits = bits[:22] + format((n - 1) % 1024, "010b")
+    return bytes(int(bits[i : i + 8], 2) for i in range(0, 32, 8)) + frame[4:]
+
+
+def line(number, secured, security, mask, frame):
+    out = [number, int(obeys(number, frame, secured))]
+    if number in KINDS:
+        kind, n, v, h = KINDS[number], len(frame), unpack(number, frame), width(number) // 8
+        f = 4 if number == 3 and v["ocf"] else 0
+        out += [h, f, kind["largest"], v["spacecraft"], v["channel"], v.get("map", 0)]
+        out += kind["most"]
+        end = max(n - f, 0)
+        out += [h, end, h, h + security, max(end - 16, 0), end, n + security + 16]
+        out += [int(n + security + 16 > kind["largest"]), int(n < h + security + 1 + 16 + f)]
+        header = bytes(x & m for x, m in zip(frame[:h], mask)) + frame[:h][len(mask) :]
+        out += [len(header), *(header + bytes([165] * 8))[: max(8, len(header))]]
+        out += [int(holds_length(number, frame)), *(rewritten(number, frame, n + security + 16) + bytes(8))[:8]]
+    return " ".join(str(x) for x in out)
+
+
+def main():
+    cases = []
+
+    def add(number, header, n, security=6, mask=b"\xff" * 6):
+        frame = (header + bytes(n))[:n] if n < len(header) else header + bytes(n - len(header))
+        for secured in (0, 1):
+            cases.append((number, secured, security, mask, frame))
+
+    masks = [b"\xff" * 6, bytes(6), b"\x0f\xf0\xaa\x55\x33\xcc", b"\x03\xff\xfc", b""]
+    for number in (1, 2, 3):
+        fields, largest, h = KINDS[number]["fields"], KINDS[number]["largest"], width(number) // 8
+        sizes = set(range(0, h + 12)) | set(range(h + 19, h + 38)) | {largest + d for d in (-31, -30, -29, -23, -22, -21, -1, 0, 1)} | {256, 257, 512, 768}
+        for ocf in (0, 1) if number == 3 else (0,):
+            for n in sorted(sizes):
+                for wrong in (0, 1, 1023) if number < 3 else (0,):
+                    good = dict(spacecraft=27, channel=5, map=9, sequence=77, ocf=ocf, length=(n - 1 + wrong) % 1024)
+                    add(number, pack(number, good), n, (6, 14)[n % 2])
+        # each field by each of its bits, and all of them, on a frame that is well formed but for it
+        for name, bits in fields:
+            for value in [1 << b for b in range(bits)] + [2 ** bits - 1]:
+                good = dict(spacecraft=27, channel=5, map=9, length=39)
+                good[name] = value
+                add(number, pack(number, good), 40, 14)
+        for mask in masks:
+            for n in (0, 3, h - 1, h, h + 1, 40):
+                add(number, pack(number, dict(spacecraft=1023, channel=5, bypass=1, sequence=255, map=63, flags=3, length=39)), n, 6, mask)
+    for number in (0, 4, 17, 255):
+        add(number, pack(1, dict(spacecraft=27, channel=5, length=5)), 6)
+    # case C of the paper
+    add(1, bytes.fromhex("001b140500aa"), 6)
+    add(1, bytes.fromhex("001b140600aa"), 6)
+
+    here = os.path.join(os.path.dirname(os.path.abspath(__file__)), "..", "crates", "frame_cases")
+    with open(os.path.join(here, "stdin"), "w") as stdin, open(os.path.join(here, "stdout"), "w") as stdout:
+        for number, secured, security, mask, frame in cases:
+            front = (frame + bytes(6))[:6]
+            octets = bytes([number, secured, security, len(mask)]) + len(frame).to_bytes(2, "big") + front + (mask + bytes(6))[:6]
+            stdin.write(octets.hex() + "\n")
+            stdout.write(line(number, secured, security, mask, frame) + "\n")
+
+
+main()
