@@ -27,7 +27,7 @@ substituted : sbox 0x53 ≡ 0xed
 unfolding sbox affine ofBits inverse squares _•_ mulBits xtime
 substituted = refl
 
--- (4.14) to (4.16): a(x) and its inverse, {0b}x^3 + {0d}x^2 + {09}x + {0e}
+-- 4.3: a(x) and its inverse, {0b}x^3 + {0d}x^2 + {09}x + {0e}
 unmixed : mixer ⊗ (0x0e ∷ 0x09 ∷ 0x0d ∷ 0x0b ∷ []) ≡ 0x01 ∷ 0x00 ∷ 0x00 ∷ 0x00 ∷ []
 unfolding _⊗_ _•_ mulBits xtime tab
 unmixed = refl
