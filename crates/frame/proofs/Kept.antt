@@ -13,8 +13,9 @@ use lib.ListN.{length, take, set, length-set, List·getD-append}
 use lib.Seq.{getD-set-same, getD-set-other, getD-take, length-take-le}
 use Rattle.octets.specs.Lists.{octet}
 use Rattle.frame.specs.Fields.{tcSpacecraft, tcChannel}
-use Rattle.frame.specs.Kinds.{Kind, tc, segmentedTc, tm, noKind, kindBehind, kindOf, named, tcRules, tcLengthOk, tcWithLength}
+use Rattle.frame.specs.Kinds.{Kind, tc, segmentedTc, tm, noKind, kindIs, kindBehind, kindOf, named, tcRules, tcLengthOk, tcWithLength}
 use Rattle.frame.specs.Rules.{least, obeys}
+use Rattle.frame.specs.declared.kinds.Kind as code
 use Rattle.frame.specs.declared.kinds.Kind.the-variants as kind
 use Rattle.frame.specs.declared.kinds.Named.{Named}
 use Rattle.frame.specs.declared.kinds.Named.the-variants as answer
@@ -38,6 +39,7 @@ built k n frame rest = k .withLength n (take (k .header frame) frame) ++ rest
 pub record Lawful (k : Kind) : Type 0 where
   pub long : (n : ℕ) (s : List ℕ) → length (k .withLength n s) ≡ length s
   pub other : (n : ℕ) (s : List ℕ) (j : ℕ) → j ≢ 2 → j ≢ 3 → octet (k .withLength n s) j ≡ octet s j
+  pub sameHeader : (n : ℕ) (frame rest : List ℕ) → k .header frame ≤ length frame → k .header (built k n frame rest) ≡ k .header frame
   pub keeps : (n : ℕ) (frame rest : List ℕ) → k .rules frame ≡ true → k .header frame ≤ length frame
       → length (built k n frame rest) ≡ n → 0 < n → n ≤ k .largest → Kept k frame (built k n frame rest)
 
@@ -123,6 +125,7 @@ tc-lawful =
     record {
       long = tc-long;
       other = tc-other;
+      sameHeader = λ n frame rest fits. refl;
       keeps = λ n frame rest ok fits count some small.
           record {
             rules = whole-rules 5 n frame rest (omega arith) fits ok count some small;
@@ -140,6 +143,7 @@ segmented-lawful =
     record {
       long = tc-long;
       other = tc-other;
+      sameHeader = λ n frame rest fits. refl;
       keeps = λ n frame rest ok fits count some small.
           record {
             rules = whole-rules 6 n frame rest (omega arith) fits ok count some small;
@@ -155,7 +159,7 @@ segmented-lawful =
 -- ---- TM
 
 tm-lawful : Lawful tm
-tm-lawful = record { long = λ n s. refl; other = λ n s j p q. refl; keeps = go }
+tm-lawful = record { long = λ n s. refl; other = λ n s j p q. refl; sameHeader = λ n frame rest fits. refl; keeps = go }
   where
     at : (frame rest : List ℕ) → 6 ≤ length frame → (j : ℕ) → j < 6 → octet (take 6 frame ++ rest) j ≡ octet frame j
     at frame rest fits j l =
@@ -185,6 +189,7 @@ none-lawful =
     record {
       long = λ n s. refl;
       other = λ n s j p q. refl;
+      sameHeader = λ n frame rest fits. refl;
       keeps = λ n frame rest ok fits count some small. let z : _≡_ {A = ℕ} 0 1 = cc in absurd (omega arith);
     }
 
@@ -193,6 +198,9 @@ lawful-named (answer.Kind kind.Tc) = tc-lawful
 lawful-named (answer.Kind kind.SegmentedTc) = segmented-lawful
 lawful-named (answer.Kind kind.Tm) = tm-lawful
 lawful-named answer.Nothing = none-lawful
+
+pub lawful-kind : (k : code.Kind) → Lawful (kindIs k)
+lawful-kind k = lawful-named (answer.Kind k)
 
 pub lawful : (number : ℕ) → Lawful (kindOf number)
 lawful number = lawful-named (named number)

@@ -1,7 +1,7 @@
 // Document 01, 'Frames': the header as the MAC covers it, each octet ANDed with the mask.
 use crate::kinds::Kind;
 use crate::total::lesser;
-use crate::total::octet_at;
+use octets::octet_at;
 ghost use mathlib.Core.Path.{_≡_};
 ghost use Rattle.octets.specs.Lists.{octet};
 ghost use Rattle.frame.specs.Kinds.{kindIs};

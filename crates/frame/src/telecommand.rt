@@ -1,7 +1,7 @@
 // Document 01, 'Frames' and 'The image': TC frames (CCSDS 232.0), without and with a segment header.
 use crate::total::less;
-use crate::total::octet_at;
 use crate::total::wide;
+use octets::octet_at;
 ghost use mathlib.Core.Path.{_≡_};
 ghost use Rattle.frame.specs.Fields.{tcSpacecraft, tcChannel, segmentMap};
 ghost use Rattle.frame.specs.Kinds.{tcRules, tcLengthOk, tcHoldsLength, tcWithLength};

@@ -1,6 +1,6 @@
 // Document 01, 'Frames' and 'The image': TM frames (CCSDS 132.0).
-use crate::total::octet_at;
 use crate::total::wide;
+use octets::octet_at;
 ghost use mathlib.Core.Path.{_≡_};
 ghost use Rattle.frame.specs.Fields.{tmSpacecraft, tmChannel};
 ghost use Rattle.frame.specs.Kinds.{tm, tmRules};

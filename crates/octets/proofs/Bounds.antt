@@ -1,11 +1,15 @@
--- Lists whose numbers are octets stay so when they are joined, chosen between, made by a rule or exclusive-ored.
+-- Lists whose numbers are octets stay so when they are joined, chosen between, made by a rule, exclusive-ored or changed in one place.
 -- Assumes nothing.
+use mathlib.Core.Path.{_≡_}
 use mathlib.Core.Bool.{Bool, true, false, cond}
 use mathlib.Core.List.{List, [], _∷_, _++_}
 use Prim.Native.Nat.{ℕ, zero, suc, _<_}
+use native.Mathlib.Decide.{ℕ-discrete, decLt}
 use native.Mathlib.Omega.{arith}
 use lib.Bits.{xor-lt}
 use lib.Dec.{lit<}
+use lib.ListN.{length, set}
+use lib.Seq.{getD-set-same, getD-set-other, set-out}
 use Rattle.octets.specs.Lists.{octet, tab, Octets}
 use Rattle.octets.specs.Xor.{xors}
 
@@ -34,3 +38,11 @@ octets-tab (suc n) f h =
 pub octets-xors : (n : ℕ) (a b : List ℕ) → Octets a → Octets b → Octets (xors n a b)
 unfolding xors
 octets-xors n a b ha hb = octets-tab n _ (λ i h. xor-lt 8 (octet a i) (octet b i) (ha i) (hb i))
+
+pub octets-set : (s : List ℕ) (i v : ℕ) → Octets s → v < 256 → Octets (set s i v)
+octets-set s i v hs h j = by-place (ℕ-discrete j i) (decLt i (length s))
+  where
+    by-place : Dec (j ≡ i) → Dec (i < length s) → octet (set s i v) j < 256
+    by-place (yes e) (yes l) = rw (e, getD-set-same s i v 0 l) h
+    by-place (yes e) (no g) = rw (set-out s i v (omega arith)) (hs j)
+    by-place (no other) d = rw (getD-set-other s i j v 0 other) (hs j)

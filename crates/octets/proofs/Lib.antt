@@ -1,6 +1,8 @@
+pub mod Alls
 pub mod Bounds
 pub mod Numbers
 pub mod Parts
+pub mod Reading
 pub mod Rules
 pub mod Sameness
 pub mod Tables

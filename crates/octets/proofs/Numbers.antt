@@ -2,19 +2,21 @@
 -- Assumes nothing.
 use mathlib.Core.Path.{_≡_, refl, sym, ap, ap₂, _∙_}
 use mathlib.Core.List.{List, [], _∷_, _++_}
-use Prim.Native.Nat.{ℕ, zero, suc, _+_, _*_, _/_, _%_, _^_, _<_}
+use Prim.Native.Nat.{ℕ, zero, suc, _+_, _-_, _*_, _/_, _%_, _^_, _≤_, _<_}
 use native.Mathlib.Omega.{arith}
 use native.Mathlib.Numerals.{add-one}
-use native.Mathlib.Nat.{add-comm, add-suc, add-zero, suc-add, zero-add, mul-assoc, mul-comm, mul-one, pow-suc, one-le-pow}
-use native.Mathlib.Nat.{add-mul-div-right, add-mul-mod-self-right, div-add-mod', div-div-eq-div-mul, div-lt-iff-lt-mul, mod-eq-of-lt, mod-lt}
-use lib.Arith.{digits-div}
+use native.Mathlib.Nat.{add-assoc, add-comm, add-suc, add-zero, suc-add, zero-add, mul-assoc, mul-comm, mul-one, pow-suc, one-le-pow}
+use native.Mathlib.Nat.{add-mul-div-right, add-mul-mod-self-right, mod-eq-of-lt, mod-lt}
+use native.Mathlib.Nat.{div-add-mod', div-div-eq-div-mul, div-one, div-lt-iff-lt-mul}
+use lib.Arith.{digits-div, digits-lt, digits-mod}
 use lib.Dec.{lit≤, lit<}
 use lib.ListN.{length, drop, List·getD-append}
 use lib.Pow.{pow-add}
 use lib.Seq.{getD-drop, drop-at}
-use Rattle.octets.specs.Lists.{octet, Octets}
-use Rattle.octets.specs.Numbers.{number, bytes}
+use Rattle.octets.specs.Lists.{octet, part, Octets}
+use Rattle.octets.specs.Numbers.{number, numberAt, bytes}
 use Rattle.octets.proofs.Bounds.{octets-nil, octets-cons}
+use Rattle.octets.proofs.Parts.{octet-part}
 
 pub number-step : (k : ℕ) (s : List ℕ) → number (k + 1) s ≡ number k s * 256 + octet s k
 unfolding number
@@ -99,3 +101,57 @@ number-bytes (suc k) n h =
     ∙ ap (number k) (bytes-low k q r)
     ∙ number-bytes k r (mod-lt n (one-le-pow k 256 (lit≤ tt))))
     ∙ whole
+
+-- ---- a number and its octets
+
+pub octet-powers : (b : ℕ) → 2 ^ (8 * b) ≡ 256 ^ b
+octet-powers zero = refl
+octet-powers (suc b) =
+    let e : 8 * suc b ≡ 8 * b + 8 = omega arith in
+    ap (λ (x : ℕ). 2 ^ x) e ∙ pow-add 2 (8 * b) 8 ∙ ap (λ (x : ℕ). x * 256) (octet-powers b) ∙ sym (pow-suc 256 b)
+
+pub number-lt : (k : ℕ) (s : List ℕ) → Octets s → number k s < 256 ^ k
+unfolding number
+number-lt zero s h = lit< tt
+number-lt (suc k) s h = rw (pow-suc 256 k) (digits-lt (number-lt k s h) (h k))
+
+pub numberAt-lt : (at k : ℕ) (s : List ℕ) → Octets s → numberAt at k s < 256 ^ k
+numberAt-lt at k s h = number-lt k (drop at s) (λ i. rw (getD-drop at s i 0) (h (at + i)))
+
+-- the octet with b octets behind it
+pub number-octet : (i b : ℕ) (s : List ℕ) → Octets s → number (i + 1 + b) s / 256 ^ b % 256 ≡ octet s i
+number-octet i b s h =
+    ap (λ (n : ℕ). n / 256 ^ b % 256) (number-add (i + 1) b s)
+    ∙ ap (λ (n : ℕ). n % 256) (digits-div (number (i + 1) s) (numberAt-lt (i + 1) b s h) ∙ number-step i s)
+    ∙ digits-mod (number i s) (h i)
+
+-- the number below 256 ^ k that has these octets
+pub number-made : (k n : ℕ) (s : List ℕ) → n < 256 ^ k → ((i b : ℕ) → i + 1 + b ≡ k → octet s i ≡ n / 256 ^ b % 256) → number k s ≡ n
+unfolding number
+number-made zero n s small h = omega arith
+number-made (suc k) n s small h =
+    let rest : (b : ℕ) → n / 256 ^ suc b ≡ n / 256 / 256 ^ b =
+    λ b. ap (λ (p : ℕ). n / p) (pow-suc 256 b ∙ mul-comm (256 ^ b) 256) ∙ sym (div-div-eq-div-mul n 256 (256 ^ b))
+    in
+    let front : number k s ≡ n / 256 =
+    number-made k (n / 256) s (div-lt-iff-lt-mul (lit< tt) .1 (rw pow-suc at small))
+    (λ i b e. h i (suc b) (add-suc (i + 1) b ∙ ap suc e) ∙ ap (λ (m : ℕ). m % 256) (rest b))
+    in
+    let last : octet s k ≡ n % 256 = h k 0 (add-zero (k + 1) ∙ add-one k) ∙ ap (λ (m : ℕ). m % 256) (div-one n) in
+    ap₂ (λ (m d : ℕ). m * 256 + d) front last ∙ div-add-mod' n 256
+
+-- ---- the number at a place
+
+-- of two lists whose octets agree there
+pub numberAt-same : (at k : ℕ) (s t : List ℕ) → ((i : ℕ) → i < k → octet s (at + i) ≡ octet t (at + i)) → numberAt at k s ≡ numberAt at k t
+numberAt-same at k s t h = number-same k (drop at s) (drop at t) (λ i l. getD-drop at s i 0 ∙ h i l ∙ sym (getD-drop at t i 0))
+
+-- of a part of a list
+pub numberAt-part : (at n from k : ℕ) (s : List ℕ) → from + k ≤ n → numberAt from k (part at n s) ≡ numberAt (at + from) k s
+numberAt-part at n from k s h =
+    number-same k (drop from (part at n s)) (drop (at + from) s)
+    (λ i l.
+    getD-drop from (part at n s) i 0
+    ∙ octet-part at n s (from + i) (omega arith)
+    ∙ ap (octet s) (sym (add-assoc at from i))
+    ∙ sym (getD-drop (at + from) s i 0))

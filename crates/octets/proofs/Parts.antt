@@ -2,13 +2,14 @@
 -- Assumes nothing.
 use mathlib.Core.Path.{_≡_, _∙_, refl, ap, sym}
 use mathlib.Core.List.{List, [], _∷_, _++_, append-nil, append-assoc}
-use Prim.Native.Nat.{ℕ, zero, suc, _+_, _-_, _≤_}
-use native.Mathlib.Nat.{add-zero, add-suc, le-refl}
+use Prim.Native.Nat.{ℕ, zero, suc, _+_, _-_, _≤_, _<_}
+use native.Mathlib.Nat.{add-assoc, add-zero, add-suc, le-refl}
 use native.Mathlib.Omega.{arith}
 use lib.ListN.{length, set, take, drop, length-drop}
 use lib.Seq.{getD-append-add, take-suc, take-length, getD-drop, set-at, append-snoc}
-use Rattle.octets.specs.Lists.{octet, tab}
-use Rattle.octets.proofs.Rules.{length-tab, tab-ext}
+use Rattle.octets.specs.Lists.{octet, tab, part, Octets}
+use Rattle.octets.proofs.Bounds.{octets-tab}
+use Rattle.octets.proofs.Rules.{length-tab, tab-ext, octet-tab}
 
 -- past the first list, an octet is one of the second
 pub octet-past : (a b : List ℕ) (i : ℕ) → length a ≤ i → octet (a ++ b) i ≡ octet b (i - length a)
@@ -40,3 +41,33 @@ unfolding tab
 set-tab n k v f =
     ap (λ (l : List ℕ). set l n v) (tab-add (suc n) k f ∙ append-snoc (tab n f) (f n) (tab k (λ j. f (suc n + j))))
     ∙ set-at (tab n f) (f n) (tab k (λ j. f (suc n + j))) v n (length-tab n f)
+
+-- ---- the n octets at a place
+
+pub length-part : (at n : ℕ) (s : List ℕ) → length (part at n s) ≡ n
+unfolding part
+length-part at n s = length-tab n _
+
+pub octet-part : (at n : ℕ) (s : List ℕ) (i : ℕ) → i < n → octet (part at n s) i ≡ octet s (at + i)
+unfolding part
+octet-part at n s i h = octet-tab n _ i h
+
+pub octets-part : (at n : ℕ) (s : List ℕ) → Octets s → Octets (part at n s)
+unfolding part
+octets-part at n s hs = octets-tab n _ (λ i h. hs (at + i))
+
+-- two lists whose octets agree there
+pub part-same : (at n : ℕ) (s t : List ℕ) → ((i : ℕ) → i < n → octet s (at + i) ≡ octet t (at + i)) → part at n s ≡ part at n t
+unfolding part
+part-same at n s t h = tab-ext n h
+
+-- a part of a part
+pub part-part : (at n from k : ℕ) (s : List ℕ) → from + k ≤ n → part from k (part at n s) ≡ part (at + from) k s
+unfolding part
+part-part at n from k s h =
+    tab-ext k (λ i l. octet-part at n s (from + i) (omega arith) ∙ ap (octet s) (sym (add-assoc at from i)))
+
+-- inside the list
+pub part-inside : (at n : ℕ) (s : List ℕ) → at + n ≤ length s → part at n s ≡ take n (drop at s)
+unfolding part
+part-inside at n s h = tab-part n at s h

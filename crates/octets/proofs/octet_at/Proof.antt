@@ -3,11 +3,11 @@
 use mathlib.Core.Path.{sym}
 use lib.ListN.{List·getD-eq-default}
 use borrow.Author.Needs.{needs}
-use Rattle.frame.proofs.total.octet_at.Statement.{statement}
-use Rattle.frame.proofs.total.octet_at.Tie as tie
+use Rattle.octets.proofs.octet_at.Statement.{statement}
+use Rattle.octets.proofs.octet_at.Tie as tie
 
 returns-2 : tie.Need-returns-2
-returns-2 c = sym (List·getD-eq-default (c .before .args .frame .now) 0 (c .if1 .left))
+returns-2 c = sym (List·getD-eq-default (c .before .args .s .now) 0 (c .if1 .left))
 
 pub octet-at-spec : {M : Type 1} → statement M
 octet-at-spec =

@@ -1,0 +1,16 @@
+-- `body_four` is right because the body's octets are those of the image from its place on.
+-- Assumes nothing.
+use Rattle.association.specs.Image.{bodyOf}
+use Rattle.octets.proofs.Numbers.{numberAt-part}
+use borrow.Author.Needs.{needs}
+use Rattle.association.proofs.body.body_four.Statement.{statement}
+use Rattle.association.proofs.body.body_four.Tie as tie
+
+returns : tie.Need-returns
+unfolding bodyOf
+returns c = rw (numberAt-part _ _ _ 4 _ (c .before .before .before .pre)) (cc)
+
+pub body-four-spec : {M : Type 1} → statement M
+body-four-spec =
+    tie.close
+    (tie.spec (λ c κs. search needs) (λ c. search needs) (λ c. search needs) (λ c κs. search needs) returns)

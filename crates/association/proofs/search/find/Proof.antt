@@ -1,0 +1,56 @@
+-- `find` is right because a turn that goes on has passed an entry that does not match, so what is left to find is found behind it.
+-- Assumes nothing.
+use mathlib.Core.Path.{_≡_, sym, _∙_}
+use Prim.Native.Nat.{ℕ, suc, _+_, _-_, _≤_, _<_}
+use borrow.Author.Needs.{needs}
+use native.Mathlib.Omega.{arith}
+use mathlib.Core.Bool.{Bool, true, false}
+use Rattle.association.specs.Image.{countOf}
+use Rattle.association.specs.Search.{matches, firstFrom, entryFor}
+use Rattle.association.specs.declared.search.Found.the-variants as found
+use Rattle.association.proofs.search.find.Statement.{statement}
+use Rattle.association.proofs.search.find.Tie as tie
+
+module _ (test : ℕ → Bool) (count i : ℕ) where
+  first-next : i < count → test i ≡ false → firstFrom i (count - i) test ≡ firstFrom (i + 1) (count - (i + 1)) test
+  unfolding firstFrom
+  first-next h e = let left : count - i ≡ suc (count - (i + 1)) = omega arith in rw left (simp e)
+
+  first-here : i < count → test i ≡ true → firstFrom i (count - i) test ≡ found.At i
+  unfolding firstFrom
+  first-here h e = let left : count - i ≡ suc (count - (i + 1)) = omega arith in rw left (simp e)
+
+  first-none : count ≤ i → firstFrom i (count - i) test ≡ found.Nothing
+  unfolding firstFrom
+  first-none h = let left : count - i ≡ 0 = omega arith in rw left
+
+abbrev Inv-loop : tie.InvT-loop
+Inv-loop image wanted count i₀ i = (i ≤ count) × (entryFor image wanted ≡ firstFrom i (count - i) (matches image wanted))
+
+abbrev μ-loop : tie.MeasureT-loop
+μ-loop image wanted count i₀ i = count - i
+
+loop-holds : tie.Need-loop-holds Inv-loop μ-loop
+unfolding entryFor
+loop-holds c =
+    let e : c .count-of .result - 0 ≡ countOf (c .before .before .args .image .now) = omega arith in
+    (search needs, rw e)
+
+loop-again : tie.Need-loop-again Inv-loop μ-loop
+loop-again c =
+    let at-loop = c .before .before .before .loop in
+    (search needs, at-loop .inv .1 ∙ first-next _ _ _ (search needs) (sym (c .before .entry-matches .ensures) ∙ c .if2 .left))
+
+returns : tie.Need-returns Inv-loop μ-loop
+returns c = sym (c .before .loop .inv .1 ∙ first-none _ _ _ (c .if1 .taken))
+
+returns-2 : tie.Need-returns-2 Inv-loop μ-loop
+returns-2 c =
+    let at-loop = c .before .before .before .loop in
+    sym (at-loop .inv .1 ∙ first-here _ _ _ (search needs) (sym (c .before .entry-matches .ensures) ∙ c .if2 .taken))
+
+pub find-spec : {M : Type 1} → statement M
+find-spec =
+    tie.close
+    (tie.spec Inv-loop μ-loop (λ c κs. search needs) loop-holds (λ c κs. search needs) (λ c. search needs)
+    (λ c. search needs) loop-again returns returns-2)

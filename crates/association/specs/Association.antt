@@ -1,0 +1,72 @@
+-- An association as a call sees it: the body of the entry that matches, the version by which the body is read, and the entry's number.
+-- Assumes nothing.
+use Prim.Native.Nat.{ℕ}
+use mathlib.Core.Bool.{Bool, true, false}
+use mathlib.Core.List.{List, []}
+use Rattle.association.specs.Body.{serviceOf, kindIn, directionOf, stateOf, windowOf, maskOf, keyOf}
+use Rattle.association.specs.Image.{versionOf, spiOf, bodyOf}
+use Rattle.association.specs.Numbers.{numberOf, markIn}
+use Rattle.association.specs.Search.{entryFor}
+use Rattle.association.specs.declared.entry.Entry.{Entry}
+use Rattle.association.specs.declared.held.Held.{Held}
+use Rattle.association.specs.declared.search.Found.{Found}
+use Rattle.association.specs.declared.search.Found.the-variants as found
+use Rattle.association.specs.declared.search.Wanted.{Wanted}
+
+pub record Association : Type 0 where
+  pub version : ℕ
+  pub body : List ℕ
+  pub number : ℕ
+
+-- that of entry i
+unfoldable pub associationOf : List ℕ → List ℕ → ℕ → Association
+associationOf image last i = record { version = versionOf image; body = bodyOf image i; number = numberOf last i }
+
+-- what the code holds of a body: the fields that protect a frame
+unfoldable pub held : ℕ → List ℕ → Held
+held version body = record { service = serviceOf body; window = windowOf body; mask = maskOf body; key = keyOf version body }
+
+abbrev pub heldIn : Association → Held
+heldIn a = held (a .version) (a .body)
+
+-- an entry as a report shows it
+unfoldable pub entryOf : List ℕ → ℕ → Entry
+entryOf image i =
+    let body = bodyOf image i in
+    record {
+      spi = spiOf image i;
+      service = serviceOf body;
+      kind = kindIn body;
+      direction = directionOf body;
+      state = stateOf body;
+      window = windowOf body;
+      mark = markIn image i;
+    }
+
+-- ---- one association, or none
+
+pub data Match : Type 0 where
+  one : Association → Match
+  none : Match
+
+abbrev pub isNone : Match → Bool
+isNone (one a) = false
+isNone none = true
+
+-- the one there is; where there is none, one whose octets all read as 0
+abbrev pub theOne : Match → Association
+theOne (one a) = a
+theOne none = record { version = 0; body = []; number = 0 }
+
+abbrev pub matchAt : List ℕ → List ℕ → Found → Match
+matchAt image last (found.At i) = one (associationOf image last i)
+matchAt image last found.Nothing = none
+
+-- the association that the search finds
+unfoldable pub matching : List ℕ → List ℕ → Wanted → Match
+matching image last w = matchAt image last (entryFor image w)
+
+-- the entry that it finds, and 0 for none
+abbrev pub indexOf : Found → ℕ
+indexOf (found.At i) = i
+indexOf found.Nothing = 0

@@ -1,0 +1,43 @@
+-- Document 01, 'What comes back', answer 4: what a frame and its SPI ask of an entry, and the search, which ends at the first entry that matches.
+-- Assumes nothing.
+use Prim.Native.Nat.{ℕ, zero, suc, _+_}
+use mathlib.Core.Bool.{Bool, cond, not, _&&_, _||_}
+use mathlib.Core.List.{List}
+use lib.Dec.{eqb}
+use Rattle.association.specs.Body.{kindIn, directionOf, stateOf, spacecraftOf, channelOf, mapOf}
+use Rattle.association.specs.Image.{versionOf, countOf, spiOf, bodyOf}
+use Rattle.association.specs.declared.search.Found.{Found}
+use Rattle.association.specs.declared.search.Found.the-variants as found
+use Rattle.association.specs.declared.search.Wanted.{Wanted}
+
+-- the state in which an association serves
+abbrev pub operational : ℕ
+operational = 2
+
+abbrev pub servesChannel : ℕ → List ℕ → ℕ → Bool
+servesChannel version body channel = eqb (channelOf body) channel
+
+-- a kind other than 2 has no MAP
+abbrev pub servesMap : List ℕ → ℕ → Bool
+servesMap body map = not (eqb (kindIn body) 2) || eqb (mapOf body) map
+
+-- operational, and of that direction, kind, spacecraft, channel and MAP
+unfoldable pub bodyServes : ℕ → List ℕ → Wanted → Bool
+bodyServes version body w =
+    eqb (stateOf body) operational
+    && eqb (directionOf body) (w .direction)
+    && eqb (kindIn body) (w .kind)
+    && eqb (spacecraftOf body) (w .spacecraft)
+    && servesChannel version body (w .channel)
+    && servesMap body (w .map)
+
+unfoldable pub matches : List ℕ → Wanted → ℕ → Bool
+matches image w i = eqb (spiOf image i) (w .spi) && bodyServes (versionOf image) (bodyOf image i) w
+
+-- the first of the n numbers from i on at which a test passes
+unfoldable pub firstFrom : ℕ → ℕ → (ℕ → Bool) → Found
+firstFrom i zero test = found.Nothing
+firstFrom i (suc n) test = cond (test i) (found.At i) (firstFrom (i + 1) n test)
+
+unfoldable pub entryFor : List ℕ → Wanted → Found
+entryFor image w = firstFrom 0 (countOf image) (matches image w)
