@@ -14,7 +14,7 @@ use lib.Count.{trailingZeros, under}
 use lib.Dec.{ltb}
 use lib.Pow.{pow-pos, pow-lt, ones-lt, pow-add, shl-shr}
 use Rattle.octets.specs.Xor.{_⊕_}
-use Rattle.octets.proofs.XorLaws.{xor-half, xor-assoc, xor-undo}
+use Rattle.octets.proofs.XorLaws.{xor-half, xor-assoc, xor-undo, xor-none}
 use Rattle.association.specs.Gray.{gray, decoded, ungray}
 
 -- ---- the two undo each other
@@ -60,6 +60,12 @@ decoded-lt k (suc d) c h = xor-lt k c (decoded d (c / 2)) h (decoded-lt k d (c /
 
 pub ungray-lt : (k c : ℕ) → c < 2 ^ k → ungray c < 2 ^ k
 ungray-lt k c h = decoded-lt k 32 c h
+
+pub gray-below : (k m : ℕ) → gray m < 2 ^ k → m < 2 ^ k
+gray-below zero m h = let e : m ≡ m / 2 = xor-none m (m / 2) (omega arith) in omega arith
+gray-below (suc k) m h =
+    let half : gray (m / 2) < 2 ^ k = omega (arith, gray-half m) in
+    omega (arith, gray-below k (m / 2) half)
 
 -- so a code is below a power of two if and only if its mark is
 pub below-together : (k c : ℕ) → c < 2 ^ 32 → ltb (ungray c) (2 ^ k) ≡ ltb c (2 ^ k)

@@ -41,6 +41,10 @@ number-same zero s t h = refl
 number-same (suc k) s t h =
     ap₂ (λ (n d : ℕ). n * 256 + d) (number-same k s t (λ i l. h i (omega arith))) (h k (omega arith))
 
+-- what stands behind the first k octets is not read
+pub number-front : (k : ℕ) (s t : List ℕ) → length s ≡ k → number k (s ++ t) ≡ number k s
+number-front k s t l = number-same k (s ++ t) s (λ i h. List·getD-append s t 0 i (omega arith))
+
 pub length-bytes : (k n : ℕ) → length (bytes k n) ≡ k
 unfolding bytes
 length-bytes zero n = refl
@@ -82,7 +86,7 @@ pub number-append : (a b : ℕ) (s t : List ℕ) → length s ≡ a → number (
 number-append a b s t l =
     number-add a b (s ++ t)
     ∙ ap₂ (λ (n : ℕ) (u : List ℕ). n * 256 ^ b + number b u)
-    (number-same a (s ++ t) s (λ i h. List·getD-append s t 0 i (omega arith)))
+    (number-front a s t l)
     (drop-at s t a l)
 
 pub number-bytes : (k n : ℕ) → n < 256 ^ k → number k (bytes k n) ≡ n

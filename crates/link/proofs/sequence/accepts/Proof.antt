@@ -1,0 +1,13 @@
+-- `accepts` is right because a number with a multiple of 2^32 in it is above the greatest, and one without is its lower part.
+-- Assumes nothing.
+use lib.Dec.{lit<}
+use Rattle.link.proofs.Window.{accepts-parts}
+use borrow.Author.Needs.{needs}
+use Rattle.link.proofs.sequence.accepts.Statement.{statement}
+use Rattle.link.proofs.sequence.accepts.Tie as tie
+
+returns : tie.Need-returns
+returns c = let g = c .before .args in accepts-parts (g .last) (g .window) (g .n .above) (g .n .number) (search needs)
+
+pub accepts-spec : {M : Type 1} → statement M
+accepts-spec = tie.close (tie.spec (λ c. search needs) (λ c. search needs) returns)

@@ -1,0 +1,90 @@
+// Document 01: the link security module. It secures and checks TC and TM transfer frames under the associations of an image. Each call is
+// what its definition of specs/Calls says: the answer, the numbers that come back, and every octet of the image and the output at its return.
+// The caller keeps the image in memory that outlives a failure of power, and hands the numbers of one call to the next.
+mod answers;
+mod checked;
+mod checking;
+mod cover;
+mod output;
+mod secured;
+mod securing;
+mod sequence;
+mod services;
+mod wanted;
+
+use answers::refused;
+use association::Numbers;
+use association::Standing;
+use association::test_standing;
+use checking::check_kind;
+use frame::Named;
+use frame::kind_of;
+use securing::secure_kind;
+ghost use mathlib.Core.List.{[]};
+ghost use mathlib.Core.Path.{_≡_};
+ghost use Rattle.link.specs.Calls.{leaving, loaded, secured, checked};
+
+pub use answers::Answer;
+pub use answers::Outcome;
+
+// A load accepts an image and gives the numbers that its marks stand for. It stores nothing.
+pub fn load(image: &[u8], numbers: Numbers) -> Outcome
+    ensures { λ r. ⌜ leaving r (now (image .entry)) [] ≡ loaded (now (image .entry)) (numbers .last) ⌝ }
+{
+    let given = association::load(image, numbers);
+    let standing = given.standing;
+    let back = given.numbers;
+    match standing {
+        Standing::Good => Outcome {
+            answer: Answer::Done(0, 0),
+            numbers: back,
+        },
+        Standing::BadImage => refused(Answer::BadImage, back),
+        Standing::BadMarks => refused(Answer::BadMarks, back),
+    }
+}
+
+// The secured frame of a clear one to the front of the output, under the association that the SPI names.
+pub fn secure(
+    image: &mut [u8],
+    numbers: Numbers,
+    kind: u8,
+    spi: u16,
+    frame: &[u8],
+    output: &mut [u8],
+) -> Outcome
+    ensures { λ r. ⌜ leaving r (now (image .exit)) (now (output .exit)) ≡ secured (now (image .entry)) (numbers .last) kind spi (now (frame .entry)) (now (output .entry)) ⌝ }
+{
+    let standing = test_standing(image, numbers);
+    let named = kind_of(kind);
+    match standing {
+        Standing::BadImage => refused(Answer::BadImage, numbers),
+        Standing::BadMarks => refused(Answer::BadMarks, numbers),
+        Standing::Good => match named {
+            Named::Kind(k) => secure_kind(image, numbers, kind, k, spi, frame, output),
+            Named::Nothing => refused(Answer::BadFrame, numbers),
+        },
+    }
+}
+
+// The clear data of a secured frame to the front of the output, under the association that the frame's SPI names.
+pub fn check(
+    image: &mut [u8],
+    numbers: Numbers,
+    kind: u8,
+    frame: &[u8],
+    output: &mut [u8],
+) -> Outcome
+    ensures { λ r. ⌜ leaving r (now (image .exit)) (now (output .exit)) ≡ checked (now (image .entry)) (numbers .last) kind (now (frame .entry)) (now (output .entry)) ⌝ }
+{
+    let standing = test_standing(image, numbers);
+    let named = kind_of(kind);
+    match standing {
+        Standing::BadImage => refused(Answer::BadImage, numbers),
+        Standing::BadMarks => refused(Answer::BadMarks, numbers),
+        Standing::Good => match named {
+            Named::Kind(k) => check_kind(image, numbers, kind, k, frame, output),
+            Named::Nothing => refused(Answer::BadFrame, numbers),
+        },
+    }
+}

@@ -1,0 +1,66 @@
+// Document 01, 'Frames': the two services. `security` is the whole security header, and `before` what the MAC covers before the data.
+use crate::output::put;
+use crate::sequence::iv_in;
+use association::Held;
+ghost use mathlib.Core.Path.{_≡_};
+ghost use Prim.Native.Nat.{_≤_};
+ghost use lib.ListN.{length, drop};
+ghost use Rattle.octets.specs.Same.{same};
+ghost use Rattle.gcm.specs.Output.{written};
+ghost use Rattle.link.specs.Protection.{serviceIn, securityLength};
+
+// The data as it goes out, to the front of `text`, and its MAC.
+pub(crate) fn protect(
+    held: Held,
+    security: &[u8],
+    before: &[u8],
+    clear: &[u8],
+    text: &mut [u8],
+) -> [u8; 16]
+    requires { ⌜ (length (now security) ≡ securityLength held) × (length (now before) ≤ 20) × (length (now clear) ≤ 2048) × (length (now clear) ≤ length (now text)) ⌝ }
+    ensures { λ r. ⌜ (r ≡ serviceIn held .mac (held .key) (drop 2 (now (security .entry))) (now (before .entry)) (serviceIn held .goingOut (held .key) (drop 2 (now (security .entry))) (now (clear .entry)))) × (now (text .exit) ≡ written (serviceIn held .goingOut (held .key) (drop 2 (now (security .entry))) (now (clear .entry))) (now (text .entry))) ⌝ }
+{
+    let key = held.key;
+    if held.service == 2 {
+        let sealed = gcm::seal(key, iv_in(security), before, clear, text);
+        return sealed.tag;
+    }
+    put(clear, text);
+    cmac::mac(key, before, clear)
+}
+
+// Whether `mac` is the MAC of the data as it came in.
+pub(crate) fn mac_is_right(
+    held: Held,
+    security: &[u8],
+    before: &[u8],
+    text: &[u8],
+    mac: [u8; 16],
+) -> bool
+    requires { ⌜ (length (now security) ≡ securityLength held) × (length (now before) ≤ 20) × (length (now text) ≤ 2048) ⌝ }
+    ensures { λ r. ⌜ r ≡ same (serviceIn held .mac (held .key) (drop 2 (now (security .entry))) (now (before .entry)) (now (text .entry))) mac ⌝ }
+{
+    let key = held.key;
+    if held.service == 2 {
+        let verdict = gcm::check(key, iv_in(security), before, text, mac);
+        return match verdict {
+            gcm::Checked::Right => true,
+            gcm::Checked::Wrong => false,
+            gcm::Checked::TooLong => false,
+        };
+    }
+    cmac::check(key, before, text, mac)
+}
+
+// The clear data to the front of `out`.
+pub(crate) fn release(held: Held, security: &[u8], text: &[u8], out: &mut [u8])
+    requires { ⌜ (length (now security) ≡ securityLength held) × (length (now text) ≤ 2048) × (length (now text) ≤ length (now out)) ⌝ }
+    ensures { λ _. ⌜ now (out .exit) ≡ written (serviceIn held .comingIn (held .key) (drop 2 (now (security .entry))) (now (text .entry))) (now (out .entry)) ⌝ }
+{
+    let key = held.key;
+    if held.service == 2 {
+        gcm::decrypt(key, iv_in(security), text, out);
+        return;
+    }
+    put(text, out);
+}

@@ -1,0 +1,55 @@
+-- A name for each layer whose definitions are to compute: a proof that unfolds the name opens them all. The ciphers stay shut.
+-- Assumes nothing.
+use lib.Count.{trailingZeros}
+use Rattle.octets.specs.Lists.{tab, part, all}
+use Rattle.octets.specs.Numbers.{number, bytes}
+use Rattle.octets.specs.Same.{same}
+use Rattle.frame.specs.Kinds.{named, tcWithLength}
+use Rattle.frame.specs.Parts.{headerOf, trailerOf, clearData, securityOf, securedData}
+use Rattle.frame.specs.Rules.{obeys}
+use Rattle.association.specs.Association.{associationOf, held, matching}
+use Rattle.association.specs.Body.{bodyOk}
+use Rattle.association.specs.Gray.{decoded}
+use Rattle.association.specs.Image.{bodyAt, bodyOf, laidOut, entryOk, validImage}
+use Rattle.association.specs.Numbers.{markIn, loadedNumbers, agrees}
+use Rattle.association.specs.Search.{bodyServes, matches, firstFrom, entryFor}
+use Rattle.association.specs.Stores.{raises, markAt, storesFor, stored, afterStores}
+use Rattle.link.specs.Answers.{first}
+use Rattle.link.specs.Calls.{wanted, loaded, securingReply, secured, securedCut, checkingReply, checkedAs, checkedCutAs}
+use Rattle.link.specs.Protection.{securedFrame, fieldIn, textIn, numberIn, clearLength}
+use Rattle.link.specs.Replies.{seen, securingTests, securing, checkingTests, checking}
+use Rattle.link.specs.Services.{service}
+use Rattle.promises.specs.Cases.{imageOf, securedC, clearTc, room}
+
+unfoldable pub octets : Unit {0}
+unfolding trailingZeros tab part all number bytes same
+octets = tt
+
+unfoldable pub frames : Unit {0}
+unfolding named tcWithLength headerOf trailerOf clearData securityOf securedData obeys
+frames = tt
+
+unfoldable pub images : Unit {0}
+unfolding bodyOk decoded bodyAt bodyOf laidOut entryOk validImage markIn loadedNumbers agrees
+images = tt
+
+unfoldable pub associations : Unit {0}
+unfolding associationOf held matching bodyServes matches firstFrom entryFor raises markAt storesFor stored afterStores
+associations = tt
+
+unfoldable pub replies : Unit {0}
+unfolding service securedFrame fieldIn textIn numberIn clearLength first seen securingTests securing checkingTests checking
+replies = tt
+
+unfoldable pub calls : Unit {0}
+unfolding wanted loaded securingReply secured securedCut checkingReply checkedAs checkedCutAs
+calls = tt
+
+-- what the cases speak of
+unfoldable pub examples : Unit {0}
+unfolding imageOf securedC clearTc room
+examples = tt
+
+unfoldable pub everything : Unit {0}
+unfolding octets frames images associations replies calls examples
+everything = tt

@@ -1,0 +1,212 @@
+-- What one end secures the other releases. The frame that went out is the one that the other end's association would have made, so its
+-- reader finds there its own SPI and identifiers, a right MAC, the number and the data; and every test of the check passes.
+-- Assumes nothing.
+use Prim.Native.Nat.{ℕ, _+_, _^_, _≤_, _<_}
+use mathlib.Core.Path.{_≡_, refl, sym, ap, ap₂, _∙_}
+use mathlib.Core.Bool.{true, false, _&&_}
+use mathlib.Core.List.{List}
+use native.Mathlib.Omega.{arith}
+use borrow.Author.Tests.{lt-ltb, le-leb}
+use lib.ListN.{length}
+use Rattle.octets.specs.Lists.{Octets}
+use Rattle.frame.specs.Kinds.{Kind, kindOf}
+use Rattle.frame.specs.Parts as parts
+use Rattle.frame.specs.Rules.{obeys}
+use Rattle.frame.proofs.Kept.{Kept}
+use Rattle.association.specs.Association.{Association, associationOf, held, heldIn}
+use Rattle.association.specs.Numbers.{greatest, accepts}
+use Rattle.association.specs.declared.held.Held.{Held}
+use Rattle.association.specs.declared.search.Wanted.{Wanted}
+use Rattle.association.proofs.Finding.{found-matching}
+use Rattle.association.proofs.ValidImages.{valid}
+use Rattle.link.specs.Calls.{handed, done, secured, checkingWants, checkingEntry, comparison, checkingReply, checkedAs, checked}
+use Rattle.link.specs.Protection.{securedLength, securedFrame, numberIn, clearData, clearLength}
+use Rattle.link.specs.Replies.{seen, Reply, checking}
+use Rattle.link.specs.Services.{service}
+use Rattle.link.proofs.Answered.{Checks, checks-zero, checking-size, left-done, handed-result}
+use Rattle.link.proofs.Searches.{Finds, finds-at}
+use Rattle.link.proofs.Wire as wire
+use Rattle.promises.specs.Frames as words
+use Rattle.promises.specs.Images.{countIn, spiAt, serviceAt, windowAt, lastAt, ImageRules, Agreeing, InWindow, Serves}
+use Rattle.promises.specs.RoundTrip.{OtherEnd, Released, RoundTrip}
+use Rattle.promises.proofs.Fields.{service-at, window-at, mask-at, key-at}
+use Rattle.promises.proofs.Sent as sent
+use Rattle.promises.proofs.Valids.{rules-valid, agreement-tested, served}
+
+-- ---- the two associations hold the same service, mask and key
+
+module _ (here sendNumbers there numbers : List ℕ) (e i : ℕ) (other : OtherEnd here e there numbers i) where
+  abbrev h : Held
+  h = heldIn (associationOf here sendNumbers e)
+
+  abbrev g : Held
+  g = heldIn (associationOf there numbers i)
+
+  same-service : g .service ≡ h .service
+  unfolding associationOf held
+  same-service = service-at there i ∙ other .service ∙ sym (service-at here e)
+
+  same-mask : g .mask ≡ h .mask
+  unfolding associationOf held
+  same-mask = mask-at there i ∙ other .mask ∙ sym (mask-at here e)
+
+  same-key : g .key ≡ h .key
+  unfolding associationOf held
+  same-key = key-at there i ∙ other .key ∙ sym (key-at here e)
+
+-- ---- the check of a frame that the receiver's association would have made
+
+module _ (there numbers : List ℕ) (octets : Octets there) (kind spi n : ℕ) (frame output : List ℕ) (i : ℕ)
+    (clear : obeys (kindOf kind) frame false ≡ true)
+    (fits : securedLength (heldIn (associationOf there numbers i)) frame ≤ kindOf kind .largest)
+    (rules : ImageRules there)
+    (agree : Agreeing there numbers)
+    (serves : Serves there 2 kind spi frame i)
+    (window : InWindow (lastAt numbers i) (windowAt there i) n)
+    (room : length (words.clearData kind frame) ≤ length output) where
+  abbrev k : Kind
+  k = kindOf kind
+
+  abbrev r : Held
+  r = heldIn (associationOf there numbers i)
+
+  abbrev S : List ℕ
+  S = securedFrame r k spi n frame
+
+  abbrev w : Wanted
+  w = checkingWants kind S
+
+  abbrev reply : Reply
+  reply = checkingReply true there numbers kind S output
+
+  kept : Kept k frame S
+  kept = wire.kept r kind spi n frame clear fits
+
+  small-spi : spi < 2 ^ 16
+  small-spi = omega (arith, rules .spi i (serves .entry) .1, serves .spis)
+
+  serves-secured : Serves there 2 kind (words.spiOn kind S) S i
+  serves-secured =
+      record {
+        entry = serves .entry;
+        spis = serves .spis ∙ sym (wire.spi-secured r kind spi n frame clear fits small-spi);
+        state = serves .state;
+        directions = serves .directions;
+        kinds = serves .kinds;
+        spacecraft = serves .spacecraft ∙ sym (kept .spacecraft);
+        channel = serves .channel ∙ sym (kept .channel);
+        map = λ e. serves .map e ∙ sym (kept .map);
+      }
+
+  finding : Finds there numbers w i
+  finding =
+      finds-at there numbers w i
+      (found-matching there (valid there (rules-valid there octets rules)) w i (serves .entry)
+      (served there 2 kind (words.spiOn kind S) S i serves-secured))
+
+  -- ---- every test passes
+
+  compared : comparison there numbers kind S ≡ true
+  unfolding comparison seen
+  compared = rw (finding .association) (wire.right-secured r kind spi n frame clear fits)
+
+  inside : accepts (associationOf there numbers i .number) (r .window) (numberIn r k S) ≡ true
+  unfolding associationOf held
+  inside =
+      let e = window-at there i in
+      let m = wire.number-secured r kind spi n frame clear fits (omega (arith, window .most)) in
+      rw m
+      (ap₂ _&&_
+      (ap₂ _&&_ (lt-ltb (lastAt numbers i) n (window .above)) (le-leb n (lastAt numbers i + r .window) (omega (arith, window .near))))
+      (le-leb n greatest (window .most)))
+
+  data-long : clearLength r k S ≡ length (words.clearData kind frame)
+  unfolding parts.clearData
+  data-long = wire.length-data r kind spi n frame clear fits
+
+  tests : Checks (seen there numbers w) true kind S (length output)
+  unfolding seen
+  tests =
+      record {
+        valid = rules-valid there octets rules;
+        agree = agreement-tested there numbers octets agree;
+        secured = wire.obeys-secured r kind spi n frame clear fits;
+        found = finding .some;
+        long = rw (finding .association) (wire.not-short r kind spi n frame clear fits);
+        roomy = rw (finding .association, data-long) room;
+        mac = refl;
+        window = rw (finding .association) inside;
+      }
+
+  zero : reply .answer ≡ 0
+  unfolding checkingReply
+  zero = checks-zero (seen there numbers w) true kind S (length output) tests
+
+  -- ---- and the data is released
+
+  is-done : checked there numbers kind S output ≡ done reply (checkingEntry there kind S) there numbers output
+  unfolding checked checkedAs
+  is-done = rw compared (left-done reply (checkingEntry there kind S) there numbers output zero)
+
+  released : Released (words.clearData kind frame) (checked there numbers kind S output)
+  unfolding checkingReply checking seen parts.clearData
+  released =
+      rw is-done
+      (record {
+        answer = refl;
+        size = rw (finding .association) data-long;
+        result =
+            handed-result reply (checkingEntry there kind S) there numbers output
+            (checking-size (seen there numbers w) true kind S (length output))
+            ∙ ap (λ (x : Association). clearData (heldIn x) k S) (finding .association)
+            ∙ wire.data-secured r kind spi n frame clear fits;
+      })
+
+-- ---- the frame that went out is that frame
+
+pub round-trip : RoundTrip
+round-trip = record { released = both-ends }
+  where
+    both-ends : (here sendNumbers : List ℕ) (kind spi : ℕ) (frame sendOutput there numbers output : List ℕ) (e i : ℕ)
+        → Octets there
+        → let x = secured here sendNumbers kind spi frame sendOutput in
+        x .answer ≡ 0
+        → e < countIn here
+        → spiAt here e ≡ spi
+        → OtherEnd here e there numbers i
+        → InWindow (lastAt numbers i) (windowAt there i) (words.numberOn (serviceAt here e) kind (handed x))
+        → length (words.clearData kind frame) ≤ length output
+        → Released (words.clearData kind frame) (checked there numbers kind (handed x) output)
+    both-ends here sendNumbers kind spi frame sendOutput there numbers output e i octets done-so below spis other window room =
+        let used = sent.used here sendNumbers kind spi frame sendOutput e below spis done-so in
+        let s = used .serves in
+        let n = lastAt sendNumbers e + 1 in
+        let h = heldIn (associationOf here sendNumbers e) in
+        let g = heldIn (associationOf there numbers i) in
+        let services = same-service here sendNumbers there numbers e i other in
+        let fits : securedLength g frame ≤ kindOf kind .largest =
+        rw services (sent.fits here sendNumbers kind spi frame sendOutput e below spis done-so)
+        in
+        let near : InWindow (lastAt numbers i) (windowAt there i) n =
+        rw (sent.made here sendNumbers kind spi frame sendOutput e below spis done-so .number) at window
+        in
+        let out : handed (secured here sendNumbers kind spi frame sendOutput) ≡ securedFrame g (kindOf kind) spi n frame =
+        sent.out here sendNumbers kind spi frame sendOutput e below spis done-so
+        ∙ wire.alike-frame h g (kindOf kind) spi n frame services (same-mask here sendNumbers there numbers e i other)
+        (same-key here sendNumbers there numbers e i other)
+        in
+        let serves : Serves there 2 kind spi frame i =
+        record {
+          entry = other .entry;
+          spis = other .spi ∙ spis;
+          state = other .state;
+          directions = other .direction;
+          kinds = other .kind ∙ s .kinds;
+          spacecraft = other .spacecraft ∙ s .spacecraft;
+          channel = other .channel ∙ s .channel;
+          map = λ two. other .map ∙ s .map two;
+        }
+        in
+        rw out
+        (released there numbers octets kind spi n frame output i
+        (sent.clear here sendNumbers kind spi frame sendOutput e below spis done-so) fits (other .valid) (other .agree) serves near room)

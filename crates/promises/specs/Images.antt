@@ -1,0 +1,122 @@
+-- Document 01, 'The image' and 'Managed numbers', in the octets of an image: where each field of an entry stands, what a valid image is,
+-- when numbers agree with it, and which entry serves a frame. The promises speak of an image in these words and not in those of the
+-- definitions that they are about, so that a definition which reads another octet or drops a rule breaks a promise.
+-- Assumes nothing.
+use Prim.Native.Nat.{ℕ, _+_, _*_, _/_, _^_, _≤_, _<_}
+use mathlib.Core.Path.{_≡_}
+use mathlib.Core.List.{List}
+use lib.ListN.{length, getD}
+use Rattle.octets.specs.Lists.{octet, part}
+use Rattle.octets.specs.Numbers.{numberAt}
+use Rattle.octets.specs.Xor.{_⊕_}
+use Rattle.frame.specs.Kinds.{kindOf}
+
+-- ---- the contents
+
+abbrev pub countIn : List ℕ → ℕ
+countIn image = octet image 1
+
+abbrev pub spiAt : List ℕ → ℕ → ℕ
+spiAt image i = numberAt (2 + 4 * i) 2 image
+
+abbrev pub positionAt : List ℕ → ℕ → ℕ
+positionAt image i = numberAt (2 + 4 * i + 2) 2 image
+
+-- ---- the body of entry i
+
+-- where its octet j stands
+abbrev pub place : List ℕ → ℕ → ℕ → ℕ
+place image i j = 2 + 4 * countIn image + 52 * i + j
+
+abbrev pub serviceAt : List ℕ → ℕ → ℕ
+serviceAt image i = octet image (place image i 0)
+
+abbrev pub kindAt : List ℕ → ℕ → ℕ
+kindAt image i = octet image (place image i 1)
+
+abbrev pub directionAt : List ℕ → ℕ → ℕ
+directionAt image i = octet image (place image i 2)
+
+abbrev pub stateAt : List ℕ → ℕ → ℕ
+stateAt image i = octet image (place image i 3)
+
+abbrev pub spacecraftAt : List ℕ → ℕ → ℕ
+spacecraftAt image i = numberAt (place image i 4) 2 image
+
+abbrev pub channelAt : List ℕ → ℕ → ℕ
+channelAt image i = octet image (place image i 6)
+
+abbrev pub mapAt : List ℕ → ℕ → ℕ
+mapAt image i = octet image (place image i 7)
+
+abbrev pub windowAt : List ℕ → ℕ → ℕ
+windowAt image i = numberAt (place image i 8) 2 image
+
+abbrev pub maskAt : List ℕ → ℕ → List ℕ
+maskAt image i = part (place image i 10) 6 image
+
+abbrev pub keyAt : List ℕ → ℕ → List ℕ
+keyAt image i = part (place image i 16) 32 image
+
+-- the mark, as it is coded
+abbrev pub codeAt : List ℕ → ℕ → ℕ
+codeAt image i = numberAt (place image i 48) 4 image
+
+abbrev pub wholeBodyAt : List ℕ → ℕ → List ℕ
+wholeBodyAt image i = part (place image i 0) 52 image
+
+-- the code of a mark: m exclusive-or half of m rounded down
+abbrev pub coded : ℕ → ℕ
+coded m = m ⊕ m / 2
+
+-- ---- what a valid image is
+
+pub record BodyRules (image : List ℕ) (i : ℕ) : Type 0 where
+  pub service : (1 ≤ serviceAt image i) × (serviceAt image i ≤ 2)
+  pub kind : (1 ≤ kindAt image i) × (kindAt image i ≤ 3)
+  pub direction : (1 ≤ directionAt image i) × (directionAt image i ≤ 2)
+  pub state : stateAt image i ≤ 2
+  pub spacecraft : spacecraftAt image i ≤ 1023
+  pub channel : channelAt image i ≤ 63
+  pub channelOfTm : kindAt image i ≡ 3 → channelAt image i ≤ 7
+  pub map : mapAt image i ≤ 63
+  pub mapOfOthers : (kindAt image i ≡ 2 → ⊥) → mapAt image i ≡ 0
+  pub window : (1 ≤ windowAt image i) × (windowAt image i ≤ 1024)
+  pub mask : kindAt image i ≡ 1 → octet image (place image i 15) ≡ 0
+  pub mark : codeAt image i < 2 ^ 26
+
+pub record ImageRules (image : List ℕ) : Type 0 where
+  pub version : octet image 0 ≡ 1
+  pub count : countIn image ≤ 32
+  pub size : length image ≡ 2 + 56 * countIn image
+  pub spi : (i : ℕ) → i < countIn image → (1 ≤ spiAt image i) × (spiAt image i ≤ 65534)
+  pub rising : (i j : ℕ) → i < j → j < countIn image → spiAt image i < spiAt image j
+  pub position : (i : ℕ) → i < countIn image → positionAt image i ≡ place image i 0
+  pub body : (i : ℕ) → i < countIn image → BodyRules image i
+
+-- ---- the managed numbers
+
+abbrev pub lastAt : List ℕ → ℕ → ℕ
+lastAt numbers i = getD numbers i 0
+
+-- for every entry, number / 64 rounded down is its mark
+pub record Agreeing (image numbers : List ℕ) : Type 0 where
+  pub marks : (i : ℕ) → i < countIn image → codeAt image i ≡ coded (lastAt numbers i / 64)
+
+-- a number that a check accepts, over whole numbers: no wrap
+pub record InWindow (last window n : ℕ) : Type 0 where
+  pub above : last < n
+  pub near : n ≤ last + window
+  pub most : n ≤ 4294967295
+
+-- ---- the entry that a frame asks for: that SPI, operational, and of that direction, kind, spacecraft, channel and (kind 2) MAP
+
+pub record Serves (image : List ℕ) (direction kind spi : ℕ) (frame : List ℕ) (i : ℕ) : Type 0 where
+  pub entry : i < countIn image
+  pub spis : spiAt image i ≡ spi
+  pub state : stateAt image i ≡ 2
+  pub directions : directionAt image i ≡ direction
+  pub kinds : kindAt image i ≡ kind
+  pub spacecraft : spacecraftAt image i ≡ kindOf kind .spacecraft frame
+  pub channel : channelAt image i ≡ kindOf kind .channel frame
+  pub map : kind ≡ 2 → mapAt image i ≡ kindOf kind .map frame

@@ -1,0 +1,9 @@
+pub mod Answers
+pub mod Cases
+pub mod Frames
+pub mod Images
+pub mod Isolation
+pub mod Leaves
+pub mod Refusals
+pub mod RoundTrip
+pub mod Runs

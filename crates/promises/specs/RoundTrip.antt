@@ -1,0 +1,48 @@
+-- Demand 2: what one end secures the other end releases. If securing a frame under an SPI answers 0, then checking the frame that went
+-- out, under the same kind, answers 0 at the other end, and its result is exactly the clear frame's data. It supposes what document 01
+-- lets it suppose: the other end's image is valid and its numbers agree with it, its entry is operational and holds the same SPI, service,
+-- kind, key, mask and identifiers with direction 2, its output is long enough, and the number on the frame lies in its window. One
+-- statement for both services and every kind.
+-- Assumes nothing.
+use Prim.Native.Nat.{ℕ, _≤_, _<_}
+use mathlib.Core.Path.{_≡_}
+use mathlib.Core.List.{List}
+use lib.ListN.{length}
+use Rattle.link.specs.Calls.{Left, handed, secured, checked}
+use Rattle.octets.specs.Lists.{Octets}
+use Rattle.promises.specs.Images.{countIn, spiAt, serviceAt, kindAt, directionAt, stateAt, spacecraftAt, channelAt, mapAt}
+use Rattle.promises.specs.Images.{windowAt, maskAt, keyAt, lastAt, ImageRules, Agreeing, InWindow}
+use Rattle.promises.specs.Frames.{clearData, numberOn}
+
+-- entry i of the image there, against entry e of the image here
+pub record OtherEnd (here : List ℕ) (e : ℕ) (there numbers : List ℕ) (i : ℕ) : Type 0 where
+  pub valid : ImageRules there
+  pub agree : Agreeing there numbers
+  pub entry : i < countIn there
+  pub spi : spiAt there i ≡ spiAt here e
+  pub service : serviceAt there i ≡ serviceAt here e
+  pub kind : kindAt there i ≡ kindAt here e
+  pub key : keyAt there i ≡ keyAt here e
+  pub mask : maskAt there i ≡ maskAt here e
+  pub spacecraft : spacecraftAt there i ≡ spacecraftAt here e
+  pub channel : channelAt there i ≡ channelAt here e
+  pub map : mapAt there i ≡ mapAt here e
+  pub direction : directionAt there i ≡ 2
+  pub state : stateAt there i ≡ 2
+
+pub record Released (text : List ℕ) (x : Left) : Type 0 where
+  pub answer : x .answer ≡ 0
+  pub size : x .length ≡ length text
+  pub result : handed x ≡ text
+
+pub record RoundTrip : Type 0 where
+  pub released : (here sendNumbers : List ℕ) (kind spi : ℕ) (frame sendOutput there numbers output : List ℕ) (e i : ℕ)
+      → Octets there
+      → let x = secured here sendNumbers kind spi frame sendOutput in
+      x .answer ≡ 0
+      → e < countIn here
+      → spiAt here e ≡ spi
+      → OtherEnd here e there numbers i
+      → InWindow (lastAt numbers i) (windowAt there i) (numberOn (serviceAt here e) kind (handed x))
+      → length (clearData kind frame) ≤ length output
+      → Released (clearData kind frame) (checked there numbers kind (handed x) output)
