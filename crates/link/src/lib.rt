@@ -23,7 +23,6 @@ use securing::secure_kind;
 ghost use mathlib.Core.List.{[]};
 ghost use mathlib.Core.Path.{_≡_};
 ghost use Rattle.link.specs.Calls.{leaving, loaded, secured, checked};
-
 pub use answers::Answer;
 pub use answers::Outcome;
 
