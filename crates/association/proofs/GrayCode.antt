@@ -8,10 +8,10 @@ use Prim.Native.Nat.{ℕ, zero, suc, _+_, _-_, _*_, _/_, _%_, _^_, _≤_, _<_}
 use native.Mathlib.Decide.{decLt}
 use native.Mathlib.Nat.{div-eq-of-lt, mul-mod-left}
 use native.Mathlib.Omega.{arith}
-use borrow.Author.Tests.{lt-ltb, le-ltb, ltb-true, ltb-false}
+use borrow.Author.Tests.{lt-ltb, le-ltb, ltb-true, ltb-false, eq-eqb, ne-eqb, eqb-true, eqb-false}
 use lib.Bits.{xor-step, xor-self, xor-comm, xor-lt, xor-shr, xor-mod, xor-shifted, xor-zero-r}
 use lib.Count.{trailingZeros, under}
-use lib.Dec.{ltb}
+use lib.Dec.{ltb, eqb}
 use lib.Pow.{pow-pos, pow-lt, ones-lt, pow-add, shl-shr}
 use Rattle.octets.specs.Xor.{_⊕_}
 use Rattle.octets.proofs.XorLaws.{xor-half, xor-assoc, xor-undo, xor-none}
@@ -163,3 +163,14 @@ gray-octet d m k h other =
     ∙ xor-mod (g / 2 ^ (8 * k)) (2 ^ t / 2 ^ (8 * k)) 8
     ∙ ap (λ (x : ℕ). (g / 2 ^ (8 * k) % 256) ⊕ x) (power-octet t k other)
     ∙ xor-zero-r (g / 2 ^ (8 * k) % 256)
+
+-- a code is that of a mark exactly when it stands for that mark
+pub same-mark : (m c : ℕ) → m < 2 ^ 32 → c < 2 ^ 32 → eqb c (gray m) ≡ eqb m (ungray c)
+same-mark m c hm hc = of (eqb c (gray m)) refl
+  where
+    of : (b : Bool) → eqb c (gray m) ≡ b → b ≡ eqb m (ungray c)
+    of true e =
+        let s : c ≡ gray m = eqb-true c (gray m) e in
+        sym (eq-eqb m (ungray c) (sym (ap ungray s ∙ ungray-gray m hm)))
+    of false e =
+        sym (ne-eqb m (ungray c) (λ s. eqb-false c (gray m) e (sym (ap gray s ∙ gray-ungray c hc))))

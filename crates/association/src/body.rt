@@ -115,7 +115,7 @@ pub(crate) fn window_of(image: &[u8], index: u8) -> u16
     body_two(image, index, 8)
 }
 
-fn code_of(image: &[u8], version: u8, index: u8) -> u32
+pub(crate) fn code_of(image: &[u8], version: u8, index: u8) -> u32
     ensures { λ r. ⌜ r ≡ codeOf version (bodyOf (now (image .entry)) index) ⌝ }
 {
     body_four(image, index, mark_place(version) as usize)

@@ -1,7 +1,10 @@
 // Document 01, 'Managed numbers': the last number of each entry, held by value.
+use crate::body::code_of;
 use crate::body::mark_in;
+use crate::gray::gray_of;
 use crate::image::count_of;
 use crate::image::image_ok;
+use crate::image::version_of;
 ghost use mathlib.Core.Path.{_≡_};
 ghost use mathlib.Core.Bool.{true};
 ghost use Prim.Native.Nat.{_<_, _^_, _/_};
@@ -90,10 +93,11 @@ pub fn load(image: &[u8], numbers: Numbers) -> Loaded
     }
 }
 
+// The mark that the number asks for is coded, and not the image's mark read: coding is one step, and reading thirty-two.
 fn agrees_at(image: &[u8], index: u8, last: u32) -> bool
     ensures { λ r. ⌜ r ≡ eqb (last / 64) (markIn (now (image .entry)) index) ⌝ }
 {
-    last / 64 == mark_in(image, index)
+    code_of(image, version_of(image), index) == gray_of(last / 64)
 }
 
 fn marks_agree(image: &[u8], numbers: Numbers) -> bool

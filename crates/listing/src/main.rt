@@ -1,0 +1,17 @@
+// Document 01, 'The listing program': reads an image from standard input and writes its listing to standard output.
+use libc::STDIN_FILENO;
+use libc::STDOUT_FILENO;
+use listing_text::LONGEST;
+use listing_text::listing_in;
+use listing_text::write_listing;
+
+// One octet more than an image can have: of a longer input that many are read, and they are refused, as no image is that long.
+const MOST_READ: usize = 1795;
+
+fn main() {
+    let mut image = [0u8; MOST_READ];
+    let count = io::read_full(STDIN_FILENO, &mut image);
+    let mut text = [0u8; LONGEST];
+    let listed = write_listing(&image[..count], &mut text);
+    io::write_all(STDOUT_FILENO, listing_in(listed, &text));
+}

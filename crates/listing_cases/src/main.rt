@@ -1,0 +1,59 @@
+// Writes the listings of many images, by the function that the listing program calls. The input has for each image a line that begins
+// with `#` and names the case, which is written as it is, and a line of its octets in hex. tools/listing_cases.py makes the images and
+// the expected listings from the paper alone.
+mod hex;
+mod lines;
+
+use hex::decode;
+use libc::STDIN_FILENO;
+use libc::STDOUT_FILENO;
+use lines::read_line;
+use listing_text::LONGEST;
+use listing_text::listing_in;
+use listing_text::write_listing;
+
+fn print_listing(image: &[u8]) {
+    let mut text = [0u8; LONGEST];
+    let listed = write_listing(image, &mut text);
+    io::write_all(STDOUT_FILENO, listing_in(listed, &text));
+}
+
+// Room for the octets that 33 entries would have, one entry more than an image may have.
+fn list(line: &[u8]) {
+    let mut image = [0u8; 1850];
+    let count = decode(line, &mut image);
+    print_listing(&image[..count]);
+}
+
+fn is_name(line: &[u8]) -> bool {
+    if line.len() == 0 {
+        return false;
+    }
+    line[0] == b'#'
+}
+
+// Whether there was a line.
+fn run_line() -> bool {
+    let mut line = [0u8; 3701];
+    let count = read_line(STDIN_FILENO, &mut line);
+    if count == 0 {
+        return false;
+    }
+    if is_name(&line[..count]) {
+        io::write_all(STDOUT_FILENO, &line[..count]);
+    } else {
+        list(&line[..count]);
+    }
+    true
+}
+
+// A proved loop has to end, and nothing says that the input does: the bound is a number of lines that it does not have.
+fn main() {
+    let mut n: usize = 0;
+    while n < 65536 {
+        if !run_line() {
+            return;
+        }
+        n += 1;
+    }
+}

@@ -1,0 +1,51 @@
+-- The paper's own lines, and the places where a listing changes: computed from the definitions.
+-- Assumes nothing.
+use mathlib.Core.Path.{_≡_, refl}
+use mathlib.Core.List.{List, [], _∷_, _++_}
+use Prim.Native.Nat.{ℕ}
+use lib.ListN.{replicate}
+use Rattle.octets.specs.Lists.{tab, part, all}
+use Rattle.octets.specs.Numbers.{number}
+use Rattle.frame.specs.Kinds.{named}
+use Rattle.association.specs.Association.{entryOf}
+use Rattle.association.specs.Body.{bodyOk}
+use Rattle.association.specs.Gray.{decoded}
+use Rattle.association.specs.Image.{bodyAt, bodyOf, laidOut, entryOk, validImage}
+use Rattle.association.specs.Numbers.{markIn}
+use Rattle.listing_text.specs.Text.{ascii, digits, decimal}
+use Rattle.listing_text.specs.Listing.{field, fields, next, line, lines, listing}
+
+-- version and count; SPI 9 and its body's position; the body up to the window, 100; mask, key and mark, all 0
+caseB : List ℕ
+caseB =
+    (1 ∷ 1 ∷ [])
+    ++ (0 ∷ 9 ∷ 0 ∷ 6 ∷ [])
+    ++ (1 ∷ 1 ∷ 1 ∷ 2 ∷ 0 ∷ 27 ∷ 5 ∷ 0 ∷ 0 ∷ 100 ∷ [])
+    ++ replicate 42 0
+
+case-b : listing caseB ≡ ascii "spi service kind direction state window next\n9 1 1 1 2 100 64\n"
+unfolding caseB listing lines line next fields field digits entryOf validImage laidOut entryOk bodyOk bodyOf bodyAt markIn named decoded
+    number part tab all
+case-b = refl
+
+-- case A: no entry, and so no line but the title
+case-a : listing (1 ∷ 0 ∷ []) ≡ ascii "spi service kind direction state window next\n"
+unfolding listing lines validImage laidOut all
+case-a = refl
+
+no-octets : listing [] ≡ ascii "refused 1\n"
+unfolding listing validImage laidOut
+no-octets = refl
+
+-- the greatest mark that leaves a number, and the one that leaves none (case K)
+last-number : next 67108862 ≡ ascii "4294967232"
+unfolding next digits
+last-number = refl
+
+spent : next 67108863 ≡ ascii "none"
+unfolding next
+spent = refl
+
+zero-is-a-digit : decimal 0 ≡ ascii "0"
+unfolding digits
+zero-is-a-digit = refl

@@ -1,0 +1,78 @@
+-- No listing is longer than 1,005 octets: a title of 45, and at most 32 lines of at most 30.
+-- Assumes nothing.
+use mathlib.Core.Path.{_≡_, refl}
+use mathlib.Core.Bool.{Bool, true, false}
+use mathlib.Core.List.{List}
+use Prim.Native.Nat.{ℕ, zero, suc, _+_, _*_, _^_, _≤_, _<_}
+use native.Mathlib.Decide.{decLt}
+use native.Mathlib.Omega.{arith}
+use lib.ListN.{length, take, drop, length-append}
+use lib.Seq.{take-append-seam}
+use Rattle.frame.specs.Masked.{fronted}
+use Rattle.association.specs.Association.{entryOf}
+use Rattle.association.specs.Image.{countOf, validImage}
+use Rattle.association.specs.Numbers.{greatest}
+use Rattle.association.proofs.ValidImages.{Valid, valid}
+use Rattle.listing_text.specs.Listing.{title, field, fields, next, line, lines, listing}
+use Rattle.listing_text.specs.Output.{listed, lengthOf}
+use Rattle.listing_text.proofs.Decimals.{digits-short}
+use Rattle.listing_text.proofs.Parts.{length-field, next-number, next-none, listing-valid, listing-refused}
+use Rattle.listing_text.proofs.Puts.{all-written}
+
+field-short : (k n : ℕ) → n < 10 ^ suc k → length (field n) ≤ k + 2
+field-short k n small = omega (arith, length-field n, digits-short k 10 n small)
+
+next-short : (mark : ℕ) → length (next mark) ≤ 10
+next-short mark = by-size (decLt greatest (64 * mark + 64))
+  where
+    by-size : Dec (greatest < 64 * mark + 64) → length (next mark) ≤ 10
+    by-size (yes over) = rw (next-none mark over) (omega arith)
+    by-size (no fits) = rw (next-number mark (omega arith)) (digits-short 9 10 (64 * mark + 64) (omega arith))
+
+-- a line of an entry that keeps the rules
+line-short : (image : List ℕ) → Valid image → (i : ℕ) → i < countOf image → length (line (entryOf image i)) ≤ 30
+unfolding line fields entryOf
+line-short image v i inside =
+    let e = v .entry i inside in
+    simp length-append
+    (omega (
+      arith,
+      field-short 4 (entryOf image i .spi) (omega arith),
+      field-short 0 (entryOf image i .service) (omega arith),
+      field-short 0 (entryOf image i .kind) (omega arith),
+      field-short 0 (entryOf image i .direction) (omega arith),
+      field-short 0 (entryOf image i .state) (omega arith),
+      field-short 3 (entryOf image i .window) (omega arith),
+      next-short (entryOf image i .mark),
+    ))
+
+lines-short : (image : List ℕ) → Valid image → (n : ℕ) → n ≤ countOf image → length (lines image n) ≤ 30 * n
+unfolding lines
+lines-short image v zero h = omega arith
+lines-short image v (suc n) h =
+    simp length-append (omega (arith, lines-short image v n (omega arith), line-short image v n (omega arith)))
+
+pub line-fits : (image : List ℕ) → validImage image ≡ true → (i : ℕ) → i < countOf image
+    → length title + length (lines image i) + length (line (entryOf image i)) ≤ 1005
+line-fits image ok i inside =
+    let v : Valid image = valid image ok in
+    let most : countOf image ≤ 32 = v .laid .count in
+    omega (arith, lines-short image v i (omega arith), line-short image v i inside)
+
+pub longest : (image : List ℕ) → length (listing image) ≤ 1005
+longest image = by-test (validImage image) refl
+  where
+    by-test : (t : Bool) → validImage image ≡ t → length (listing image) ≤ 1005
+    by-test true e =
+        let v : Valid image = valid image e in
+        let most : countOf image ≤ 32 = v .laid .count in
+        rw (listing-valid image e) (simp length-append (omega (arith, lines-short image v (countOf image) (omega arith))))
+    by-test false e = rw (listing-refused image e) (omega arith)
+
+-- an output of that many octets holds, whatever the image, its listing and nothing else
+pub printed : (image out : List ℕ) → 1005 ≤ length out
+    → take (lengthOf (listed (listing image) out)) (fronted (listing image) out) ≡ listing image
+printed image out room =
+    let fits : length (listing image) ≤ length out = omega (arith, longest image) in
+    rw (← all-written (listing image) out fits .0, ← all-written (listing image) out fits .1)
+    (take-append-seam (listing image) (drop (length (listing image)) out))

@@ -1,0 +1,14 @@
+-- `listing_in` is right because it cuts the output where the answer says that the text ends.
+-- Assumes nothing.
+use borrow.Author.Needs.{needs}
+use Rattle.listing_text.proofs.output.listing_in.Statement.{statement}
+use Rattle.listing_text.proofs.output.listing_in.Tie as tie
+
+returns : tie.Need-returns
+returns c = rw (c .before .before .listed .given .1) (c .front .ensures)
+
+pub listing-in-spec : {M : Type 1} → statement M
+listing-in-spec =
+    tie.close
+    (tie.spec (λ c. search needs) (λ c κs. search needs) (λ c. search needs) (λ c κs. search needs) returns (λ c.
+    search needs))

@@ -1,0 +1,25 @@
+-- A text in an output: put at a place, one behind the other; and what comes back of the whole.
+-- Assumes nothing.
+use mathlib.Core.Path.{_≡_}
+use Prim.Native.Nat.{ℕ, _+_}
+use mathlib.Core.Bool.{cond}
+use mathlib.Core.List.{List, _++_}
+use lib.Dec.{leb}
+use lib.ListN.{length, take}
+use Rattle.listing_text.specs.declared.output.Listed.{Listed}
+use Rattle.listing_text.specs.declared.output.Listed.the-variants as answer
+
+-- a text put at a place of an output: it stands there, what is before it stays, and the place behind it is the next
+pub record Put (before : List ℕ) (at : ℕ) (text after : List ℕ) (behind : ℕ) : Type 0 where
+  pub size : length after ≡ length before
+  pub place : behind ≡ at + length text
+  pub front : take behind after ≡ take at before ++ text
+
+-- so many octets of text, or no room for them
+unfoldable pub listed : List ℕ → List ℕ → Listed
+listed text out = cond (leb (length text) (length out)) (answer.Text (length text)) answer.NoRoom
+
+-- how long a listing it says there is; where there was no room there is none
+abbrev pub lengthOf : Listed → ℕ
+lengthOf (answer.Text n) = n
+lengthOf answer.NoRoom = 0

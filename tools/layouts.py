@@ -1,0 +1,495 @@
+#!/usr/bin/env python3
+"""Draws docs/layouts/*.svg, the pictures of docs/LAYOUTS.md, from the widths that document 01 gives.
+
+  python3 tools/layouts.py            writes the pictures
+  python3 tools/layouts.py --check    ends with 1 if a picture is not what this script draws
+
+The same script gives the same octets everywhere. A label that does not fit in its box, two texts that overlap, and a header whose widths do
+not add up end it.
+"""
+import os
+import sys
+
+WIDTH = 960
+LEFT = 84  # where boxes begin; labels of rows stand before
+UNIT = 54  # one bit of a header, one octet of a body
+FULL = 16 * UNIT
+
+# One colour for one meaning, in every picture.
+FIXED = "#e3e3e3"  # the value is fixed by a rule
+FREE = "#ffffff"  # may hold anything
+NAMES = "#cfe3f7"  # names of spacecraft, channel, MAP, entry
+SORT = "#c9ece6"  # which of several: version, service, kind, state, answer
+LENGTH = "#fcd9ad"  # lengths, positions, counts
+NUMBER = "#fff0a8"  # SPI, sequence number, window, mark, stores
+DATA = "#d3ecd0"  # data
+MAC = "#f7cdc9"  # MAC and key
+TRAILER = "#dfd3ee"  # OCF
+INK = "#1a1a1a"
+SOFT = "#595959"
+
+
+def text_width(text, size, weight="normal"):
+    """About what the text takes in the widest of the fonts named below."""
+    total = 0.0
+    for c in text:
+        if c in "iljI.,:;'|!()[] ":
+            total += 0.37
+        elif c in "mwMW%":
+            total += 0.96
+        elif c.isupper():
+            total += 0.72
+        else:
+            total += 0.62
+    return total * size * (1.05 if weight == "bold" else 1)
+
+
+class Picture:
+    def __init__(self, name, title):
+        self.name = name
+        self.title = title
+        self.parts = []
+        self.bottom = 0
+        self.texts = []
+
+    def add(self, part, bottom):
+        self.parts.append(part)
+        self.bottom = max(self.bottom, bottom)
+
+    def text(self, x, y, words, size=13, anchor="middle", weight="normal", colour=INK):
+        width = text_width(words, size, weight)
+        left = x - {"start": 0, "middle": width / 2, "end": width}[anchor]
+        assert left >= 0 and left + width <= WIDTH, "outside the picture: " + words
+        for other, x1, x2, base, tall in self.texts:
+            apart = left + width <= x1 or x2 <= left or y - 0.75 * size >= base + 1 or base - 0.75 * tall >= y + 1
+            assert apart, f"overlap: {words} and {other}"
+        self.texts.append((words, left, left + width, y, size))
+        words = words.replace("&", "&amp;").replace("<", "&lt;").replace(">", "&gt;")
+        bold = ' font-weight="bold"' if weight == "bold" else ""
+        self.add(f'<text x="{x:g}" y="{y:g}" font-size="{size}" text-anchor="{anchor}" fill="{colour}"{bold}>{words}</text>', y + 6)
+
+    def note(self, y, words, x=LEFT):
+        self.text(x, y, words, 12.5, "start", colour=SOFT)
+
+    def line(self, x1, y1, x2, y2, colour=INK, width=1, dashes=""):
+        dashed = f' stroke-dasharray="{dashes}"' if dashes else ""
+        self.add(f'<path d="M{x1:g} {y1:g}L{x2:g} {y2:g}" stroke="{colour}" stroke-width="{width}"{dashed}/>', max(y1, y2))
+
+    def arrow(self, points, colour=INK):
+        path = "L".join(f"{x:g} {y:g}" for x, y in points)
+        self.add(f'<path d="M{path}" fill="none" stroke="{colour}" stroke-width="1.3" marker-end="url(#tip)"/>', max(y for _, y in points))
+
+    def box(self, x, y, width, height, fill, lines, dashes="", sizes=(13, 12, 12, 12)):
+        """A box with its name in bold and what else is said of it in the lines below. A line that begins with * goes on with the name."""
+        dashed = f' stroke-dasharray="{dashes}"' if dashes else ""
+        self.add(f'<rect x="{x:g}" y="{y:g}" width="{width:g}" height="{height:g}" fill="{fill}" stroke="{INK}"{dashed}/>', y + height)
+        steps = 16
+        start = y + height / 2 - steps * (len(lines) - 1) / 2 + 4.5
+        for i, words in enumerate(lines):
+            bold = i == 0 or words.startswith("*")
+            weight = "bold" if bold else "normal"
+            size = sizes[0] if bold else sizes[min(i, len(sizes) - 1)]
+            words = words.lstrip("*")
+            assert text_width(words, size, weight) <= width - 1, f"does not fit: {words} in {width}"
+            self.text(x + width / 2, start + steps * i, words, size, weight=weight)
+
+    def bracket(self, x1, x2, y, words, colour=INK, size=12.5):
+        """A bracket below something, from x1 to x2, with words below it."""
+        self.add(f'<path d="M{x1 + 2:g} {y:g}v7H{x2 - 2:g}v-7" fill="none" stroke="{colour}" stroke-width="1.6"/>', y + 7)
+        for i, part in enumerate(words):
+            self.text((x1 + x2) / 2, y + 21 + 15 * i, part, size, colour=colour)
+
+    def svg(self):
+        height = int(self.bottom + 14)
+        head = (
+            f'<svg xmlns="http://www.w3.org/2000/svg" viewBox="0 0 {WIDTH} {height}" width="{WIDTH}" height="{height}" role="img"'
+            " font-family=\"Helvetica, Arial, 'Liberation Sans', 'DejaVu Sans', sans-serif\">"
+        )
+        tip = (
+            '<defs><marker id="tip" viewBox="0 0 8 8" refX="7" refY="4" markerWidth="8" markerHeight="8" orient="auto">'
+            f'<path d="M0 0L8 4L0 8z" fill="{INK}"/></marker></defs>'
+        )
+        ground = f'<rect width="{WIDTH}" height="{height}" fill="#ffffff"/>'
+        return "\n".join([head, f"<title>{self.title}</title>", tip, ground] + self.parts + ["</svg>", ""])
+
+
+def heading(picture, words, note=""):
+    picture.text(LEFT, 26, words, 16, "start", "bold")
+    if note:
+        picture.note(46, note)
+
+
+def legend(picture, y, entries, x=LEFT):
+    for fill, words in entries:
+        picture.add(f'<rect x="{x:g}" y="{y - 11:g}" width="14" height="14" fill="{fill}" stroke="{INK}"/>', y + 3)
+        picture.text(x + 20, y, words, 12.5, "start")
+        x += 20 + text_width(words, 12.5) + 18
+
+
+# ---- headers: rows of 16 bits
+
+TC = [
+    ("version", 2, FIXED, "0"),
+    ("bypass", 1, FREE, "any"),
+    ("control", 1, FIXED, "0"),
+    ("spare", 2, FIXED, "0"),
+    ("spacecraft", 10, NAMES, "0 to 1,023"),
+    ("virtual channel", 6, NAMES, "0 to 63"),
+    ("length", 10, LENGTH, "all octets of the frame less one"),
+    ("frame sequence", 8, FREE, "any"),
+]
+SEGMENT = [("flags", 2, FREE, "any"), ("MAP", 6, NAMES, "0 to 63")]
+TM = [
+    ("version", 2, FIXED, "0"),
+    ("spacecraft", 10, NAMES, "0 to 1,023"),
+    ("virtual channel", 3, NAMES, "0 to 7"),
+    ("OCF", 1, LENGTH, "flag"),
+    ("master channel count", 8, FREE, "any"),
+    ("virtual channel count", 8, FREE, "any"),
+    ("flag", 1, FIXED, "0"),
+    ("rest of the data field status", 15, FREE, "any"),
+]
+MEANINGS = [(FIXED, "must be 0"), (FREE, "may hold anything"), (NAMES, "names the channel"), (LENGTH, "says how long")]
+
+
+def header(name, title, note, fields, octets):
+    assert sum(width for _, width, _, _ in fields) == 8 * octets
+    p = Picture(name, title)
+    heading(p, title, note)
+    y = 92
+    rows = (octets + 1) // 2
+    at = 0
+    waiting = list(fields)
+    for row in range(rows):
+        bits = min(16, 8 * octets - 16 * row)
+        for octet in range(bits // 8):
+            p.text(LEFT + UNIT * (8 * octet + 4), y - 22, f"octet {2 * row + octet}", 12.5, weight="bold")
+            p.line(LEFT + UNIT * 8 * octet, y - 34, LEFT + UNIT * 8 * octet, y, SOFT)
+        p.line(LEFT + UNIT * bits, y - 34, LEFT + UNIT * bits, y, SOFT)
+        for bit in range(bits):
+            p.text(LEFT + UNIT * (bit + 0.5), y - 6, str(bit % 8), 11.5, colour=SOFT)
+        p.text(LEFT - 10, y + 32, f"bits {16 * row}", 12, "end", colour=SOFT)
+        p.text(LEFT - 10, y + 47, f"to {16 * row + bits - 1}", 12, "end", colour=SOFT)
+        while waiting and at + waiting[0][1] <= 16 * row + bits:
+            label, width, fill, rule = waiting.pop(0)
+            size = "1 bit" if width == 1 else f"{width} bits"
+            sizes = (11.5, 12) if width == 1 else (13, 12)
+            p.box(LEFT + UNIT * (at - 16 * row), y, UNIT * width, 70, fill, [label, size, rule], sizes=sizes)
+            at += width
+        y += 122
+    assert not waiting
+    legend(p, p.bottom + 30, [m for m in MEANINGS if m[0] in [f[2] for f in fields]])
+    return p
+
+
+def tc_header():
+    note = "Bit 0 of an octet is its most significant. Largest frame: 1,024 octets."
+    return header("tc-header", "TC header (kind 1): 5 octets", note, TC, 5)
+
+
+def tc_segment_header():
+    note = "The header of kind 1 and one octet more, the segment header. Largest frame: 1,024 octets."
+    return header("tc-segment-header", "TC header with segment header (kind 2): 6 octets", note, TC + SEGMENT, 6)
+
+
+def tm_header():
+    note = "OCF flag 1: the last 4 octets of the frame are the operational control field. Largest frame: 2,048 octets."
+    p = header("tm-header", "TM header (kind 3): 6 octets", note, TM, 6)
+    p.note(p.bottom + 20, "The flag that opens the data field status would announce a secondary header.")
+    return p
+
+
+# ---- secured frames
+
+
+def parts_row(p, y, parts, label, end):
+    """Parts one behind the other, with the place where each begins above it, and where the last ends."""
+    p.text(LEFT - 10, y + 31, label, 12.5, "end", "bold")
+    x = LEFT
+    places = {}
+    for name, width, fill, lines, place in parts:
+        p.text(x + 3, y - 6, place, 12, "start", colour=SOFT)
+        p.line(x, y - 16, x, y, SOFT)
+        p.box(x, y, width, 52, fill, lines)
+        places[name] = (x, x + width)
+        x += width
+    p.line(x, y - 16, x, y, SOFT)
+    if x + 70 < WIDTH:
+        p.text(x + 3, y - 6, end, 12, "start", colour=SOFT)
+    else:
+        p.text(x - 3, y - 6, end, 12, "end", colour=SOFT)
+    return places
+
+
+def secured_rows(p, y, service, ocf):
+    field = 4 if service == 1 else 12
+
+    def place(behind, data=False):
+        """So many octets behind the header, and behind the data too. A frame with OCF is TM, so its h is 6."""
+        known = str(6 + behind) if ocf else ("h" if behind == 0 else f"h+{behind}")
+        return known + ("+n" if data else "")
+
+    h = "6 octets" if ocf else "h octets"
+    # A part has the same width in both rows.
+    head, spi, number, data, mac, trailer = 120, 74, 148, 252, 116, 154
+    clear = [("header", head, NAMES, ["header", h], "0"), ("data", data, DATA, ["data", "n octets"], place(0))]
+    secured = [
+        ("header", head, NAMES, ["header", h], "0"),
+        ("spi", spi, NUMBER, ["SPI", "2 octets"], place(0)),
+        ("number", number, NUMBER, ["number" if service == 1 else "IV: the number", f"{field} octets"], place(2)),
+        ("data", data, DATA, ["data" if service == 1 else "data, encrypted", "n octets"], place(2 + field)),
+        ("mac", mac, MAC, ["MAC", "16 octets"], place(2 + field, True)),
+    ]
+    if ocf:
+        clear.append(("ocf", trailer, TRAILER, ["OCF", "4 octets"], place(0, True)))
+        secured.append(("ocf", trailer, TRAILER, ["OCF, copied", "4 octets"], place(18 + field, True)))
+    parts_row(p, y, clear, "clear", place(4 if ocf else 0, True))
+    ends = parts_row(p, y + 96, secured, "secured", place((22 if ocf else 18) + field, True))
+    below = y + 96 + 60
+    p.bracket(*ends["header"], below, ["ANDed with", "the mask"], "#1f4e99")
+    if service == 1:
+        p.bracket(ends["spi"][0], ends["data"][1], below, ["as they are: no mask here"], "#1f4e99")
+        all_of_it = "the MAC covers all of this: CMAC over masked header, security header, data"
+        p.bracket(ends["header"][0], ends["data"][1], below + 48, [all_of_it], "#8a1c12")
+    else:
+        p.bracket(ends["spi"][0], ends["number"][1], below, ["as they are: no mask here"], "#1f4e99")
+        p.bracket(ends["data"][0], ends["data"][1], below, ["GCM plaintext, out as ciphertext"], "#1f6b1a")
+        p.bracket(ends["header"][0], ends["number"][1], below + 48, ["GCM additional data"], "#8a1c12")
+        p.bracket(ends["header"][0], ends["data"][1], below + 86, ["the MAC, GCM's tag, covers all of this"], "#8a1c12")
+    p.bracket(ends["mac"][0], ends["ocf"][1] if ocf else ends["mac"][1], below, ["not covered"], SOFT)
+
+
+def secured(service):
+    what = "authentication" if service == 1 else "authenticated encryption"
+    name = f"secured-service-{service}"
+    p = Picture(name, f"Service {service}, {what}: a clear frame and the secured one")
+    size = 6 if service == 1 else 14
+    sizes = f"h is 5 for kind 1 and 6 for kinds 2 and 3; n is at least 1. The secured frame is {size + 16} octets longer."
+    heading(p, p.title, sizes + " Widths are not to scale.")
+    p.text(LEFT, 80, "Without OCF: TC, and TM with OCF flag 0", 14, "start", "bold")
+    secured_rows(p, 110, service, False)
+    y = p.bottom + 34
+    p.text(LEFT, y, "With OCF: TM with OCF flag 1", 14, "start", "bold")
+    secured_rows(p, y + 30, service, True)
+    p.note(p.bottom + 26, "In TC the length field in the header is rewritten for the longer frame before the MAC is made.")
+    if service == 2:
+        p.note(p.bottom + 14, "The IV is the number, big-endian in 12 octets. What is sent has 0 in the first 8 of them.")
+    return p
+
+
+# ---- the image
+
+
+def image():
+    p = Picture("image", "The image: a table of contents, then the bodies")
+    heading(p, p.title, "k entries, 0 to 32. Numbers are big-endian. Widths are not to scale.")
+    y = 112
+    contents = [
+        (66, SORT, ["version", "1", "1 octet"], "0"),
+        (62, LENGTH, ["count", "k", "1 octet"], "1"),
+        (82, NUMBER, ["SPI", "entry 0", "2 octets"], "2"),
+        (82, LENGTH, ["position", "of body 0", "2 octets"], "4"),
+        (82, NUMBER, ["SPI", "entry 1", "2 octets"], "6"),
+        (82, LENGTH, ["position", "of body 1", "2 octets"], "8"),
+        (50, FREE, ["..."], ""),
+        (92, NUMBER, ["SPI", "entry k-1", "2 octets"], "4k-2"),
+        (92, LENGTH, ["position", "of body k-1", "2 octets"], "4k"),
+    ]
+    tops = {}
+    x = LEFT
+    p.text(LEFT - 10, y + 37, "contents", 12.5, "end", "bold")
+    for i, (width, fill, lines, place) in enumerate(contents):
+        p.line(x, y - 14, x, y, SOFT)
+        p.text(x + 3, y - 6, place, 12, "start", colour=SOFT)
+        p.box(x, y, width, 64, fill, lines)
+        tops[i] = x + width / 2
+        x += width
+    p.line(x, y - 14, x, y, SOFT)
+    p.text(x + 3, y - 6, "2+4k", 12, "start", colour=SOFT)
+    p.text(LEFT, y - 30, "place of the octet in the image", 12, "start", colour=SOFT)
+    yb = y + 172
+    bodies = [
+        (220, FREE, ["body 0", "52 octets"], "2+4k", 3),
+        (220, FREE, ["body 1", "52 octets"], "2+4k+52", 5),
+        (50, FREE, ["..."], "", None),
+        (220, FREE, ["body k-1", "52 octets"], "2+4k+52(k-1)", 8),
+    ]
+    x = LEFT
+    p.text(LEFT - 10, yb + 37, "bodies", 12.5, "end", "bold")
+    for width, fill, lines, place, source in bodies:
+        p.line(x, yb - 14, x, yb, SOFT)
+        p.text(x + 3, yb - 6, place, 12, "start", colour=SOFT)
+        p.box(x, yb, width, 64, fill, lines)
+        if source is not None:
+            p.arrow([(tops[source], y + 64), (x + 0.62 * width, yb - 1)])
+        x += width
+    p.line(x, yb - 14, x, yb, SOFT)
+    p.text(x + 3, yb - 6, "2+56k: the end", 12, "start", colour=SOFT)
+    p.note(yb + 92, "SPIs are 1 to 65,534 and rise strictly. Body i stands at 2 + 4k + 52i; its position says so.")
+    p.note(yb + 110, "The image has exactly 2 + 56k octets: 2 with no entry, 58 with one, 1,794 with 32.")
+    return p
+
+
+def body():
+    p = Picture("body", "A body: 52 octets")
+    heading(p, p.title, "Octets are counted from the body's first. Below each name: the values allowed.")
+    rows = [
+        [
+            ("service", 1, SORT, ["1, 2"]),
+            ("kind", 1, SORT, ["1 to 3"]),
+            ("direc-", 1, SORT, ["*tion", "1, 2"]),
+            ("state", 1, SORT, ["0 to 2"]),
+            ("spacecraft", 2, NAMES, ["0 to 1,023"]),
+            ("virtual", 1, NAMES, ["*channel", "TC 0-63", "TM 0-7"]),
+            ("MAP", 1, NAMES, ["kind 2:", "0-63,", "else 0"]),
+            ("window", 2, NUMBER, ["1 to 1,024"]),
+            ("header mask", 6, FREE, ["any; for kind 1 the last octet is 0"]),
+        ],
+        [("AES-256 key, first half", 16, MAC, ["any"])],
+        [("AES-256 key, second half", 16, MAC, ["any"])],
+        [("mark m, coded", 4, NUMBER, ["m below 2^26, as m xor m/2"])],
+    ]
+    y = 96
+    at = 0
+    for row in rows:
+        width = sum(f[1] for f in row)
+        tall = 84 if at == 0 else 54
+        p.text(LEFT - 10, y + tall / 2 + 4, f"octets {at}", 12, "end", colour=SOFT)
+        p.text(LEFT - 10, y + tall / 2 + 19, f"to {at + width - 1}", 12, "end", colour=SOFT)
+        for i in range(width):
+            p.text(LEFT + UNIT * (i + 0.5), y - 6, str(at + i), 11.5, colour=SOFT)
+        x = LEFT
+        for name, octets, fill, lines in row:
+            small = octets == 1
+            p.box(x, y, UNIT * octets, tall, fill, [name] + lines, sizes=(10.5, 11.5) if small else (13, 12))
+            x += UNIT * octets
+        at += width
+        y += tall + 34
+    assert at == 52
+    x = LEFT + 4 * UNIT + 24
+    last = y - 54 - 34
+    p.text(x, last + 16, "The mark is the one field that the module writes.", 12.5, "start")
+    p.text(x, last + 34, "Raising m by one changes one bit of the code, so one octet.", 12.5, "start")
+    p.note(y, "service: 1 authentication, 2 authenticated encryption. kind: 1 TC, 2 TC with segment header, 3 TM.")
+    p.note(y + 18, "direction: 1 send, 2 receive. state: 0 unkeyed, 1 keyed, 2 operational. xor: exclusive or; m/2 is rounded down.")
+    legend(p, y + 46, [(SORT, "which of several"), (NAMES, "names the channel"), (NUMBER, "for the number"), (MAC, "secret")])
+    return p
+
+
+# ---- the result of the C interface
+
+
+def packed_result():
+    p = Picture("packed-result", "What load, secure and check return in C: one number of 64 bits")
+    heading(p, p.title, "Bit 0 is the least significant, on the right.")
+    y = 96
+    bit = FULL / 64
+    fields = [
+        ("0", 63, 48, FIXED, []),
+        ("answer", 47, 40, SORT, ["0 to 11"]),
+        ("stores", 39, 32, NUMBER, ["0 to 16"]),
+        ("length", 31, 0, LENGTH, ["octets of the result"]),
+    ]
+    assert sum(high - low + 1 for _, high, low, _, _ in fields) == 64
+    x = LEFT
+    for name, high, low, fill, lines in fields:
+        width = bit * (high - low + 1)
+        p.line(x, y - 20, x, y, SOFT)
+        p.text(x + 4, y - 6, str(high), 12, "start", colour=SOFT)
+        p.text(x + width - 4, y - 6, str(low), 12, "end", colour=SOFT)
+        p.box(x, y, width, 62, fill, [name] + lines + [f"{high - low + 1} bits"])
+        x += width
+    p.line(x, y - 20, x, y, SOFT)
+    y += 98
+    examples = [
+        (0, 1, 28, "done: 28 octets out, one octet stored (case D)"),
+        (0, 0, 0, "a load that is done"),
+        (7, 0, 0, "refused: the MAC differs"),
+    ]
+    p.text(LEFT, y, "Examples, in hex", 13, "start", "bold")
+    for answer, stores, length, words in examples:
+        y += 24
+        value = answer << 40 | stores << 32 | length
+        digits = f"{value:016X}"
+        p.text(LEFT, y, " ".join([digits[:4], digits[4:6], digits[6:8], digits[8:]]), 13, "start")
+        p.text(LEFT + 230, y, words, 13, "start")
+    p.note(y + 30, "A refusal has length 0 and 0 stores.")
+    return p
+
+
+# ---- the crates
+
+
+def layers():
+    p = Picture("layers", "The crates: each stands on those that its arrows point to")
+    p.text(24, 26, p.title, 16, "start", "bold")
+    p.note(46, "An arrow that follows from others is left out.", 24)
+    high = 56
+    rows = [470, 370, 270, 170, 70]
+    boxes = {
+        "octets": (24, 0, 596, FIXED, "lists of octets, and their laws"),
+        "cipher": (24, 1, 256, MAC, "AES-256"),
+        "cmac": (24, 2, 118, MAC, "CMAC"),
+        "gcm": (162, 2, 118, MAC, "GCM"),
+        "frame": (310, 1, 310, NAMES, "kinds, headers, parts"),
+        "association": (310, 2, 310, NUMBER, "image, marks, numbers, search"),
+        "link": (24, 3, 396, DATA, "load, secure, check"),
+        "promises": (24, 4, 188, FREE, "theorems alone"),
+        "link_c": (232, 4, 188, FREE, "the C interface"),
+        "listing_text": (460, 3, 160, FREE, "the lines"),
+        "listing": (460, 4, 160, FREE, "the program"),
+    }
+
+    def top(name):
+        return rows[boxes[name][1]]
+
+    tall = rows[1] + high - rows[2] + 24
+    p.add(f'<rect x="12" y="{rows[2] - 12}" width="280" height="{tall}" fill="none" stroke="#8a1c12" stroke-dasharray="6 4"/>', 0)
+    for name, (x, row, width, fill, words) in boxes.items():
+        p.box(x, rows[row], width, high, fill, [name, words], sizes=(14, 12.5))
+    arrows = [
+        ("promises", "link", 118), ("link_c", "link", 326), ("listing", "listing_text", 540), ("link", "cmac", 83), ("link", "gcm", 221),
+        ("link", "association", 365), ("listing_text", "association", 540), ("cmac", "cipher", 83), ("gcm", "cipher", 221),
+        ("association", "frame", 465), ("cipher", "octets", 152), ("frame", "octets", 465),
+    ]
+    for above, below, x in arrows:
+        p.arrow([(x, top(above) + high), (x, top(below) - 1)])
+    lab = "Dashed frame: with octets, what goes to the partner lab by itself. Nothing in it names a frame."
+    p.text(24, 556, lab, 12.5, "start", colour="#8a1c12")
+    p.text(668, 58, "Aside: programs that run them", 13, "start", "bold")
+    programs = [
+        (4, "listing_cases", "runs listing_text"),
+        (3, "link_cases", "runs link"),
+        (2, "cipher_vectors", "runs cipher, cmac, gcm"),
+        (1, "cipher_bench", "times cipher, cmac, gcm"),
+        (0, "frame_cases", "runs frame"),
+    ]
+    for row, name, words in programs:
+        p.box(668, rows[row], 268, high, FREE, [name, words], dashes="4 3", sizes=(14, 12.5))
+    p.line(644, 60, 644, 530, SOFT, 1, "2 4")
+    return p
+
+
+PICTURES = [tc_header, tc_segment_header, tm_header, lambda: secured(1), lambda: secured(2), image, body, packed_result, layers]
+
+
+def main(arguments):
+    folder = os.path.join(os.path.dirname(os.path.abspath(__file__)), "..", "docs", "layouts")
+    os.makedirs(folder, exist_ok=True)
+    wrong = 0
+    for make in PICTURES:
+        picture = make()
+        path = os.path.join(folder, picture.name + ".svg")
+        drawn = picture.svg()
+        if arguments == ["--check"]:
+            if not os.path.exists(path) or open(path, encoding="utf-8").read() != drawn:
+                print(f"docs/layouts/{picture.name}.svg is not what tools/layouts.py draws")
+                wrong = 1
+        else:
+            with open(path, "w", encoding="utf-8") as out:
+                out.write(drawn)
+    return wrong
+
+
+if __name__ == "__main__":
+    sys.exit(main(sys.argv[1:]))

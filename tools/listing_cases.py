@@ -1,0 +1,181 @@
+#!/usr/bin/env python3
+"""Makes the images and the expected listings of crates/listing and crates/listing_cases, their files stdin and stdout.
+
+The rules are read off document 01 ('The image', 'The listing program') here, and not off the code:
+
+  python3 tools/listing_cases.py
+"""
+import os
+
+TITLE = "spi service kind direction state window next\n"
+REFUSED = "refused 1\n"
+
+# A body in its octets' order: a field's name and how many octets it has.
+BODY = [("service", 1), ("kind", 1), ("direction", 1), ("state", 1), ("spacecraft", 2), ("channel", 1), ("map", 1)]
+BODY += [("window", 2), ("mask", 6), ("key", 32), ("code", 4)]
+CASE_B = dict(spi=9, service=1, kind=1, direction=1, state=2, spacecraft=27, channel=5, map=0, window=100, mask=0, key=0, code=0)
+
+
+def gray(mark):
+    return mark ^ mark // 2
+
+
+def mark_of(code):
+    """The mark whose code this is: its bits, from the highest, are the sums of the code's bits so far, modulo 2."""
+    mark, ones = 0, 0
+    for bit in format(code, "032b"):
+        ones += int(bit)
+        mark = 2 * mark + ones % 2
+    return mark
+
+
+# ---- an image from entries
+
+
+def image(entries, version=1, count=None, positions=None):
+    k = len(entries)
+    whole = bytes([version, k if count is None else count])
+    for i, e in enumerate(entries):
+        position = 2 + 4 * k + 52 * i if positions is None else positions[i]
+        whole += e["spi"].to_bytes(2, "big") + position.to_bytes(2, "big")
+    for e in entries:
+        whole += b"".join(e[name].to_bytes(size, "big") for name, size in BODY)
+    return whole
+
+
+def entry(**changes):
+    return dict(CASE_B, **changes)
+
+
+# ---- the rules and the listing
+
+
+def fields_of(body):
+    fields = {}
+    for name, size in BODY:
+        fields[name], body = int.from_bytes(body[:size], "big"), body[size:]
+    return fields
+
+
+def body_ok(b):
+    if b["kind"] not in (1, 2, 3):
+        return False
+    most_channel, most_map = {1: (63, 0), 2: (63, 63), 3: (7, 0)}[b["kind"]]
+    return (
+        b["service"] in (1, 2)
+        and b["direction"] in (1, 2)
+        and b["state"] in (0, 1, 2)
+        and b["spacecraft"] <= 1023
+        and b["channel"] <= most_channel
+        and b["map"] <= most_map
+        and 1 <= b["window"] <= 1024
+        and (b["kind"] != 1 or b["mask"] % 256 == 0)
+        and mark_of(b["code"]) < 2**26
+    )
+
+
+def listing(data):
+    if len(data) < 2 or data[0] != 1 or data[1] > 32 or len(data) != 2 + 56 * data[1]:
+        return REFUSED
+    k, before, text = data[1], 0, TITLE
+    for i in range(k):
+        contents = data[2 + 4 * i : 6 + 4 * i]
+        spi, position = int.from_bytes(contents[:2], "big"), int.from_bytes(contents[2:], "big")
+        b = fields_of(data[2 + 4 * k + 52 * i :][:52])
+        if not before < spi <= 65534 or position != 2 + 4 * k + 52 * i or not body_ok(b):
+            return REFUSED
+        before, number = spi, 64 * mark_of(b["code"]) + 64
+        shown = [spi, b["service"], b["kind"], b["direction"], b["state"], b["window"]]
+        text += " ".join(map(str, shown + [number if number <= 4294967295 else "none"])) + "\n"
+    return text
+
+
+# ---- the cases
+
+
+def wholes():
+    """Images that keep the rules: the paper's cases, none and all of 32 entries, and the values at each end."""
+    yield "case A, no entry", image([])
+    yield "case B", image([entry()])
+    yield "case G, after the cut", image([entry(code=0x01)])
+    yield "case G, after both stores", image([entry(code=0x03)])
+    yield "case I, window 1,024", image([entry(window=1024)])
+    yield "case J, mark 255", image([entry(code=0x00000080)])
+    yield "case J, mark 256", image([entry(code=0x00000180)])
+    yield "case K, a spent number", image([entry(code=0x02000000)])
+    yield "the mark before it", image([entry(code=gray(67108862))])
+    yield "case M, service 2", image([entry(service=2)])
+    least = dict(service=1, kind=1, direction=1, state=0, spacecraft=0, channel=0, map=0, window=1, mask=0, key=0, code=0)
+    most = dict(service=2, kind=3, direction=2, state=2, spacecraft=1023, channel=7, map=0, window=1024, mask=2**48 - 1, key=2**256 - 1)
+    yield "32 entries, the smallest values", image([dict(least, spi=1 + i) for i in range(32)])
+    yield "32 entries, the largest values, 1,794 octets", image([dict(most, spi=65503 + i, code=gray(67108863)) for i in range(32)])
+    yield "32 entries, the longest listing", image([dict(most, spi=65503 + i, code=gray(67108862 - i)) for i in range(32)])
+    yield "31 entries, marks of every width", image([entry(spi=1 + 2 * i, code=gray(2 ** (i % 27) - 1)) for i in range(31)])
+    yield "every kind, service, direction and state", image(
+        [
+            entry(spi=1 + i, kind=1 + i % 3, service=1 + i // 3 % 2, direction=1 + i // 6 % 2, state=i // 12, window=10 ** (i % 4))
+            for i in range(32)
+        ]
+    )
+    yield "kind 2 at its limits", image([entry(kind=2, channel=63, map=63, mask=2**48 - 1)])
+    yield "kind 1 at its limits", image([entry(channel=63, spacecraft=1023, mask=0xFFFFFFFFFF00)])
+
+
+def broken():
+    """Each rule broken by itself, and inputs of other sizes."""
+    b = image([entry()])
+    full = [entry(spi=1 + i) for i in range(32)]
+    yield "no octets", b""
+    yield "one octet", b"\x01"
+    yield "version 0", image([entry()], version=0)
+    yield "version 2", image([entry()], version=2)
+    yield "count one less", image([entry()], count=0)
+    yield "count one more", image([entry()], count=2)
+    yield "count 33, 1,850 octets", image(full + [entry(spi=33)])
+    yield "count 33, cut at 1,795 octets", image(full + [entry(spi=33)])[:1795]
+    yield "one octet short", b[:-1]
+    yield "one octet too many", b + b"\x00"
+    yield "32 entries and one octet, 1,795 octets", image(full) + b"\x00"
+    yield "spi 0", image([entry(spi=0)])
+    yield "spi 65,535", image([entry(spi=65535)])
+    yield "spi equal", image([entry(spi=9), entry(spi=9)])
+    yield "spi falls", image([entry(spi=9), entry(spi=8)])
+    yield "spi falls at the last of 32", image([entry(spi=40 + i if i < 31 else 1) for i in range(32)])
+    yield "position one less", image([entry()], positions=[5])
+    yield "position one more", image([entry()], positions=[7])
+    yield "positions exchanged", image([entry(spi=1), entry(spi=2)], positions=[62, 10])
+    for name, value in [
+        *[("service", 0), ("service", 3), ("kind", 0), ("kind", 4), ("direction", 0), ("direction", 3), ("state", 3)],
+        *[("spacecraft", 1024), ("channel", 64), ("map", 1), ("window", 0), ("window", 1025), ("mask", 1)],
+    ]:
+        yield "%s %s" % (name, format(value, ",")), image([entry(**{name: value})])
+    yield "kind 2, map 64", image([entry(kind=2, map=64)])
+    yield "kind 2, channel 64", image([entry(kind=2, channel=64)])
+    yield "kind 3, channel 8", image([entry(kind=3, channel=8)])
+    yield "kind 3, map 1", image([entry(kind=3, map=1)])
+    yield "mark 2^26", image([entry(code=gray(2**26))])
+    yield "mark 2^32 - 1", image([entry(code=gray(2**32 - 1))])
+    yield "a broken body behind 31 good ones", image(full[:31] + [entry(spi=32, window=0)])
+
+
+def main():
+    root = os.path.join(os.path.dirname(os.path.abspath(__file__)), "..", "crates")
+
+    def put(crate, name, data):
+        with open(os.path.join(root, crate, name), "wb") as f:
+            f.write(data)
+
+    for name, data in wholes():
+        assert listing(data) != REFUSED, name
+    for name, data in broken():
+        assert listing(data) == REFUSED, name
+    cases = [*wholes(), *broken()]
+    assert max(len(listing(data)) for _, data in cases) == 1005
+    put("listing_cases", "stdin", "".join("# %s\n%s\n" % (name, data.hex()) for name, data in cases).encode())
+    put("listing_cases", "stdout", "".join("# %s\n%s" % (name, listing(data)) for name, data in cases).encode())
+    b = image([entry()])
+    put("listing", "stdin", b)
+    put("listing", "stdout", listing(b).encode())
+
+
+main()
