@@ -1,0 +1,20 @@
+-- `print_result` is safe and ends because its index rises up to the number of octets.
+-- Assumes nothing.
+use Prim.Native.Nat.{_-_, _≤_}
+use lib.ListN.{length}
+use borrow.Author.Needs.{needs}
+use Rattle.link_cases.proofs.answers.print_result.Statement.{statement}
+use Rattle.link_cases.proofs.answers.print_result.Tie as tie
+
+abbrev Inv-loop : tie.InvT-loop
+Inv-loop octets i₀ t4 i = i ≤ length octets
+
+abbrev μ-loop : tie.MeasureT-loop
+μ-loop octets i₀ t4 i = length octets - i
+
+pub print-result-spec : {M : Type 1} → statement M
+print-result-spec =
+    tie.close
+    (tie.spec Inv-loop μ-loop (λ c. search needs) (λ c κs. search needs) (λ c. search needs) (λ c. search needs)
+    (λ c. search needs) (λ c κs. search needs) (λ c. search needs) (λ c. search needs) (λ c. search needs)
+    (λ c. search needs))

@@ -1,0 +1,718 @@
+#!/usr/bin/env python3
+"""Makes crates/link_cases/stdin, calls of the module, and crates/link_cases/stdout, what is expected to come back and to change.
+
+All of it is read off document 01 here, over whole numbers and strings of octets, and not off the code; AES is OpenSSL's. Each call below
+states the answer that the paper gives it, and the reading is held to that as well:
+
+  python3 tools/link_cases.py        (needs the Python package `cryptography`)
+"""
+import os
+import random
+from dataclasses import dataclass, replace
+
+from cryptography.hazmat.primitives.ciphers.aead import AESGCM
+from cryptography.hazmat.primitives.ciphers.algorithms import AES
+from cryptography.hazmat.primitives.cmac import CMAC
+
+MOST = 2**32 - 1
+HEADER = {1: 5, 2: 6, 3: 6}
+LARGEST = {1: 1024, 2: 1024, 3: 2048}
+SECURITY = {1: 6, 2: 14}
+FIELDS = dict(service=1, kind=1, direction=1, state=1, spacecraft=2, channel=1, map=1, window=2, mask=6, key=32, code=4)
+
+
+# 'The image'
+
+
+@dataclass(frozen=True)
+class Entry:
+    spi: int
+    service: int
+    kind: int
+    direction: int
+    state: int = 2
+    spacecraft: int = 27
+    channel: int = 5
+    map: int = 0
+    window: int = 100
+    mask: bytes = bytes.fromhex("ffffffffff00")
+    key: bytes = bytes(range(32))
+    mark: int = 0
+    code: int = None
+
+    def body(self):
+        code = self.mark ^ self.mark // 2 if self.code is None else self.code
+        values = dict(vars(self), code=code)
+        return b"".join(values[name] if name in ("mask", "key") else values[name].to_bytes(n, "big") for name, n in FIELDS.items())
+
+
+def image_of(*entries):
+    k = len(entries)
+    contents = b"".join(e.spi.to_bytes(2, "big") + (2 + 4 * k + 52 * i).to_bytes(2, "big") for i, e in enumerate(entries))
+    return bytes([1, k]) + contents + b"".join(e.body() for e in entries)
+
+
+def decoded_mark(code):
+    """The m whose code is this: each bit of m is the exclusive-or of the code's bits from the top down to it."""
+    m = 0
+    for bit in format(code, "032b"):
+        m = 2 * m + (m % 2 ^ int(bit))
+    return m
+
+
+def read_body(spi, body):
+    values, at = {}, 0
+    for name, n in FIELDS.items():
+        part, at = body[at : at + n], at + n
+        values[name] = part if name in ("mask", "key") else int.from_bytes(part, "big")
+    return Entry(spi=spi, mark=decoded_mark(values["code"]), **values)
+
+
+def is_allowed(e):
+    return (
+        1 <= e.spi <= 65534
+        and e.service in (1, 2)
+        and e.kind in (1, 2, 3)
+        and e.direction in (1, 2)
+        and e.state in (0, 1, 2)
+        and e.spacecraft <= 1023
+        and e.channel <= (7 if e.kind == 3 else 63)
+        and e.map <= (63 if e.kind == 2 else 0)
+        and 1 <= e.window <= 1024
+        and (e.kind != 1 or e.mask[5] == 0)
+        and e.mark < 2**26
+    )
+
+
+def read_image(image):
+    """The entries, or None where the image breaks a rule."""
+    if len(image) < 2 or image[0] != 1 or image[1] > 32 or len(image) != 2 + 56 * image[1]:
+        return None
+    k, entries = image[1], []
+    for i in range(k):
+        spi, position = (int.from_bytes(image[at : at + 2], "big") for at in (2 + 4 * i, 4 + 4 * i))
+        if position != 2 + 4 * k + 52 * i or (entries and spi <= entries[-1].spi):
+            return None
+        entries.append(read_body(spi, image[position : position + 52]))
+    return entries if all(map(is_allowed, entries)) else None
+
+
+def stored(image, i, mark, count):
+    """The image after the first so many stores that raise the mark of entry i from this one."""
+    at = 2 + 4 * image[1] + 52 * i + 48
+    for m in range(mark + 1, mark + count + 1):
+        after = image[:at] + (m ^ m // 2).to_bytes(4, "big") + image[at + 4 :]
+        assert sum(a != b for a, b in zip(image, after)) == 1, "a raise stores one octet"
+        image = after
+    return image
+
+
+# 'Frames'
+
+
+def bits(frame, first, count):
+    return int.from_bytes(frame, "big") >> 8 * len(frame) - first - count & 2**count - 1
+
+
+def packed(*fields):
+    value = width = 0
+    for v, n in fields:
+        value, width = value << n | v, width + n
+    return value.to_bytes(width // 8, "big")
+
+
+def tc(size, data, bypass=0, sequence=0, spacecraft=27, channel=5, segment=None, version=0, control=0, spare=0):
+    header = packed((version, 2), (bypass, 1), (control, 1), (spare, 2), (spacecraft, 10), (channel, 6), (size - 1, 10), (sequence, 8))
+    return header + (b"" if segment is None else packed((segment[0], 2), (segment[1], 6))) + data
+
+
+def tm(data, ocf=b"", counts=(0, 0), status=0, spacecraft=27, channel=5, version=0):
+    header = packed((version, 2), (spacecraft, 10), (channel, 3), (len(ocf) // 4, 1), (counts[0], 8), (counts[1], 8), (status, 16))
+    return header + data + ocf
+
+
+def clear(kind, data, ocf=b"", **fields):
+    if kind == 3:
+        return tm(data, ocf, **fields)
+    return tc(HEADER[kind] + len(data), data, segment=(3, 9) if kind == 2 else None, **fields)
+
+
+def trailer(kind, frame):
+    return 4 if kind == 3 and bits(frame, 15, 1) else 0
+
+
+def is_frame(kind, frame, least):
+    """Whether the frame keeps its kind's header rules, length field and size: with at least so many octets behind its header."""
+    if kind not in HEADER or not HEADER[kind] <= len(frame) <= LARGEST[kind]:
+        return False
+    if len(frame) < HEADER[kind] + least + trailer(kind, frame) or bits(frame, 0, 2):
+        return False
+    if kind == 3:
+        return bits(frame, 32, 1) == 0
+    return bits(frame, 3, 1) == 0 and bits(frame, 4, 2) == 0 and bits(frame, 22, 10) == len(frame) - 1
+
+
+def identifiers(kind, frame):
+    if kind == 3:
+        return bits(frame, 2, 10), bits(frame, 12, 3), 0
+    return bits(frame, 6, 10), bits(frame, 16, 6), bits(frame, 42, 6) if kind == 2 else 0
+
+
+def matching(entries, spi, direction, kind, frame):
+    """The first entry of the contents that matches, or None."""
+    wanted = (spi, 2, direction, kind, *identifiers(kind, frame))
+    found = [i for i, e in enumerate(entries) if (e.spi, e.state, e.direction, e.kind, e.spacecraft, e.channel, e.map) == wanted]
+    return found[0] if found else None
+
+
+# The services
+
+
+def masked(octets, mask):
+    """The octets, each ANDed with the mask's; a mask that is shorter begins anew."""
+    return bytes(x & mask[i % len(mask)] for i, x in enumerate(octets))
+
+
+def protected(e, iv, before, data):
+    """The data as it goes out, and the MAC."""
+    if e.service == 2:
+        sealed = AESGCM(e.key).encrypt(iv, data, before)
+        return sealed[:-16], sealed[-16:]
+    cmac = CMAC(AES(e.key))
+    cmac.update(before + data)
+    return data, cmac.finalize()
+
+
+SLIPS = [
+    "security header masked",
+    "old length",
+    "mask not applied",
+    "OCF covered",
+    "data not covered",
+    "security header not covered",
+    "another key",
+]
+
+
+def secured_frame(e, kind, frame, n, slip=None):
+    """The secured frame of a clear one. A slip makes its MAC as the paper does not."""
+    h, f = HEADER[kind], trailer(kind, frame)
+    header, data, ocf = frame[:h], frame[h : len(frame) - f], frame[len(frame) - f :]
+    size = len(frame) + SECURITY[e.service] + 16
+    sent = header if kind == 3 else header[:2] + packed((bits(header, 16, 6), 6), (size - 1, 10)) + header[4:]
+    iv = n.to_bytes(SECURITY[e.service] - 2, "big")
+    security = e.spi.to_bytes(2, "big") + iv
+    before = masked(sent, e.mask) + security
+    out, mac = protected(e, iv, before, data)
+    if slip == "security header masked":
+        mac = protected(e, iv, masked(sent, e.mask) + masked(security, e.mask), data)[1]
+    elif slip == "old length":
+        mac = protected(e, iv, masked(header, e.mask) + security, data)[1]
+    elif slip == "mask not applied":
+        mac = protected(e, iv, sent + security, data)[1]
+    elif slip == "OCF covered":
+        mac = protected(e, iv, before, data + ocf)[1]
+    elif slip == "data not covered":
+        mac = protected(e, iv, before, b"")[1]
+    elif slip == "security header not covered":
+        mac = protected(e, iv, masked(sent, e.mask), data)[1]
+    elif slip == "another key":
+        mac = protected(replace(e, key=e.key[::-1]), iv, before, data)[1]
+    return sent + security + out + mac + ocf
+
+
+def opened(e, kind, frame):
+    """The number in a secured frame, whether its MAC is right, and its clear data."""
+    h, end = HEADER[kind], len(frame) - trailer(kind, frame)
+    at = h + SECURITY[e.service]
+    security, out, mac = frame[h:at], frame[at : end - 16], frame[end - 16 : end]
+    before = masked(frame[:h], e.mask) + security
+    # in GCM the text is the exclusive-or of the data and what the IV alone decides, so that protecting the text once more gives the data
+    data = protected(e, security[2:], before, out)[0]
+    return int.from_bytes(security[2:], "big"), protected(e, security[2:], before, data)[1] == mac, data
+
+
+# 'What comes back'
+
+
+@dataclass
+class Done:
+    result: bytes = b""
+    entry: int = None
+    number: int = 0
+
+
+def disagrees(entries, numbers):
+    return any(numbers[i] // 64 != e.mark for i, e in enumerate(entries))
+
+
+def securing(image, numbers, kind, spi, frame, room):
+    entries = read_image(image)
+    if entries is None:
+        return 1
+    if disagrees(entries, numbers):
+        return 2
+    if not is_frame(kind, frame, 1):
+        return 3
+    i = matching(entries, spi, 1, kind, frame)
+    if i is None:
+        return 4
+    size = len(frame) + SECURITY[entries[i].service] + 16
+    if size > LARGEST[kind]:
+        return 11
+    if room < size:
+        return 6
+    if numbers[i] == MOST:
+        return 10
+    return Done(secured_frame(entries[i], kind, frame, numbers[i] + 1), i, numbers[i] + 1)
+
+
+def checking(image, numbers, kind, frame, room):
+    entries = read_image(image)
+    if entries is None:
+        return 1
+    if disagrees(entries, numbers):
+        return 2
+    if not is_frame(kind, frame, 2):
+        return 3
+    h = HEADER[kind]
+    i = matching(entries, int.from_bytes(frame[h : h + 2], "big"), 2, kind, frame)
+    if i is None:
+        return 4
+    rest = len(frame) - h - SECURITY[entries[i].service] - 16 - trailer(kind, frame)
+    if rest < 1:
+        return 5
+    if room < rest:
+        return 6
+    n, is_right, data = opened(entries[i], kind, frame)
+    if not is_right:
+        return 7
+    if not numbers[i] < n <= min(numbers[i] + entries[i].window, MOST):
+        return 8
+    return Done(data, i, n)
+
+
+class Module:
+    """The lines: the calls, and what is expected of each, on an image and numbers as they stand between calls."""
+
+    def __init__(self):
+        self.lines, self.expected, self.octets, self.numbers = [], [], b"", [0] * 32
+
+    def case(self, name):
+        self.lines.append("# " + name)
+        self.expected.append("# " + name)
+
+    def image(self, octets):
+        self.octets = octets
+        self.lines.append("image " + octets.hex())
+
+    def number(self, entry, n):
+        self.numbers[entry] = n
+        self.lines.append("number %02x %08x" % (entry, n))
+
+    def expect(self, text, octets, numbers):
+        text += "".join(", image %d: %02x to %02x" % (i, a, b) for i, (a, b) in enumerate(zip(self.octets, octets)) if a != b)
+        text += "".join(", number %d: %d to %d" % (i, a, b) for i, (a, b) in enumerate(zip(self.numbers, numbers)) if a != b)
+        self.expected.append(text)
+        self.octets, self.numbers = octets, numbers
+
+    def came(self, reply, answer, stores):
+        """Holds the reading to the answer that is stated, and carries a done call out."""
+        if not isinstance(reply, Done):
+            assert answer in (reply, None), (self.lines[-1], reply, answer)
+            self.expect("answer %d" % reply, self.octets, self.numbers)
+            return None
+        assert answer in (0, None), (self.lines[-1], 0, answer)
+        octets, numbers, made = self.octets, list(self.numbers), 0
+        if reply.entry is not None:
+            mark = numbers[reply.entry] // 64
+            made = reply.number // 64 - mark
+            octets = stored(octets, reply.entry, mark, made)
+            numbers[reply.entry] = reply.number
+        assert stores in (made, None), (self.lines[-1], made, stores)
+        text = "answer 0 length %d stores %d result" % (len(reply.result), made)
+        self.expect(text + "".join(" %02x" % x for x in reply.result), octets, numbers)
+        return reply.result
+
+    def load(self, answer=0):
+        self.lines.append("load")
+        entries = read_image(self.octets)
+        assert answer == (1 if entries is None else 0), (self.octets.hex(), answer)
+        if entries is None:
+            self.expect("answer 1", self.octets, self.numbers)
+        else:
+            loaded = [64 * e.mark + 63 for e in entries]
+            self.expect("answer 0 length 0 stores 0 result", self.octets, loaded + [0] * (32 - len(loaded)))
+
+    def fresh(self, *entries):
+        """A new image, loaded."""
+        self.image(image_of(*entries))
+        self.load()
+
+    def stand(self, entry, last):
+        """An image of one entry, whose last number is this."""
+        self.image(image_of(replace(entry, mark=last // 64)))
+        self.number(0, last)
+
+    def secure(self, kind, spi, frame, answer, room=None, stores=None):
+        room = len(frame) + 40 if room is None else room
+        self.lines.append("secure %02x %04x %04x %s" % (kind, spi, room, frame.hex()))
+        return self.came(securing(self.octets, self.numbers, kind, spi, frame, room), answer, stores)
+
+    def check(self, kind, frame, answer, room=None, stores=None):
+        room = len(frame) if room is None else room
+        self.lines.append("check %02x %04x %s" % (kind, room, frame.hex()))
+        return self.came(checking(self.octets, self.numbers, kind, frame, room), answer, stores)
+
+    def cut(self, entry, n, j, stores):
+        """A call that raises the mark of the entry to that of n, cut after its first j stores."""
+        self.lines.append("raise %02x %08x %08x" % (entry, n, j))
+        mark = read_image(self.octets)[entry].mark
+        assert stores == max(0, min(j, n // 64 - mark))
+        self.expect("stores %d" % stores, stored(self.octets, entry, mark, stores), self.numbers)
+
+
+# 'Cases'
+
+B = Entry(spi=9, service=1, kind=1, direction=1)
+RECEIVING = replace(B, direction=2)
+C = bytes.fromhex("001b140500aa")
+
+
+def numbered(e, n, slip=None):
+    """Case C's frame, secured with this number."""
+    return secured_frame(e, 1, C, n, slip)
+
+
+def sized(n):
+    return tc(n, bytes(i % 251 for i in range(n - 5)))
+
+
+def cases_a_to_h(run):
+    run.case("A: no entry")
+    run.number(0, 7)
+    run.image(bytes.fromhex("0100"))
+    run.load()
+    run.case("B: one entry, whose number is 63")
+    run.fresh(B)
+    assert len(run.octets) == 58 and run.octets[5] == 6 and run.numbers[0] == 63
+    run.case("C: the fourth octet is not the length less one")
+    run.secure(1, 9, bytes.fromhex("001b140600aa"), 3)
+    run.case("D: C secured under B, with one store")
+    sent = run.secure(1, 9, C, 0, stores=1)
+    assert len(sent) == 28 and sent.startswith(bytes.fromhex("001b141b00000900000040aa"))
+    assert run.octets[57] == 1
+    run.case("E and F: after 63, with a window of 100")
+    for n, answer in ((63, 8), (64, 0), (163, 0), (164, 8)):
+        run.fresh(RECEIVING)
+        run.check(1, numbered(B, n), answer)
+    run.case("G: accepting 163 stores 01, then 03; cut after the first, a load gives 127")
+    for j, octet in ((0, 0), (2, 3), (3, 3), (1, 1)):
+        run.fresh(RECEIVING)
+        run.cut(0, 163, j, min(j, 2))
+        assert run.octets[57] == octet
+        run.load()
+    assert run.numbers[0] == 127
+    run.case("H: after the cut, 163 passes with one store")
+    run.check(1, numbered(B, 163), 0, stores=1)
+
+
+def cases_i_to_o(run):
+    run.case("I: 1,087 takes 16 stores, a cut leaves the first of them, and 1,088 is outside the window")
+    wide = replace(RECEIVING, window=1024)
+    run.fresh(wide)
+    run.check(1, numbered(B, 1088), 8)
+    run.check(1, numbered(B, 1087), 0, stores=16)
+    for j in range(17):
+        run.fresh(wide)
+        run.cut(0, 1087, j, j)
+        run.load()
+        assert run.numbers[0] == 64 * j + 63
+    run.case("J: mark 255 to 256")
+    run.fresh(replace(B, mark=255))
+    assert run.octets[54:] == bytes.fromhex("00000080")
+    run.secure(1, 9, C, 0, stores=1)
+    assert run.octets[54:] == bytes.fromhex("00000180")
+    run.case("K: the last mark, whose numbers are spent")
+    run.fresh(replace(B, mark=67108863))
+    assert run.octets[54:] == bytes.fromhex("02000000") and run.numbers[0] == MOST
+    run.secure(1, 9, C, 10)
+    for name, service, most in (("L", 1, 1002), ("M", 2, 994)):
+        run.case("%s: a TC frame of %d octets becomes one of 1,024, and a longer one none" % (name, most))
+        run.fresh(replace(B, service=service))
+        run.secure(1, 9, sized(most + 1), 11)
+        sent = run.secure(1, 9, sized(most), 0)
+        assert len(sent) == 1024
+    gcm = replace(RECEIVING, service=2)
+    run.case("N: an IV with a first octet of 01, and with a 01 in each octet above a number, with a right MAC")
+    run.fresh(gcm)
+    for octet in range(4, 12):
+        run.check(1, numbered(gcm, 64 + 256**octet), 8)
+    run.check(1, numbered(gcm, 64), 0, stores=1)
+    run.case("O: an IV number of 4,294,967,296 after 4,294,967,290, with a right MAC; and the last number")
+    run.stand(gcm, 4294967290)
+    run.check(1, numbered(gcm, 4294967296), 8)
+    run.check(1, numbered(gcm, MOST), 0, stores=0)
+    run.check(1, numbered(gcm, MOST), 8)
+
+
+# 'Slips that look right'
+
+MASKS = {1: bytes.fromhex("1ff7fbfd7e00"), 2: bytes.fromhex("1ff7fbfd7ebf"), 3: bytes.fromhex("f03ffe5aa57f")}
+
+
+def random_frame(kind, has_ocf, size, rng):
+    """A clear frame of an association of `pair`, with any bits in what is not tested."""
+    data, ocf = rng.randbytes(size), rng.randbytes(4) if has_ocf else b""
+    if kind == 3:
+        counts = (rng.randrange(256), rng.randrange(256))
+        return tm(data, ocf, counts, rng.randrange(2**15), spacecraft=0x2B5, channel=6)
+    segment = (rng.randrange(4), 0x2D) if kind == 2 else None
+    header = dict(bypass=rng.randrange(2), sequence=rng.randrange(256), spacecraft=0x2B5, channel=0x35)
+    return tc(HEADER[kind] + size, data, segment=segment, **header)
+
+
+def pair(kind, service, rng):
+    """Both ends of an association."""
+    channel, map = 6 if kind == 3 else 0x35, 0x2D if kind == 2 else 0
+    here = Entry(rng.randrange(256, 65535), service, kind, 1, 2, 0x2B5, channel, map, 64, MASKS[kind], rng.randbytes(32))
+    return here, replace(here, direction=2)
+
+
+def slips_of(kind, has_ocf):
+    return [s for s in SLIPS if (s != "old length" or kind != 3) and (s != "OCF covered" or has_ocf)]
+
+
+def slips(run, rng):
+    for kind, has_ocf in ((1, False), (2, False), (3, False), (3, True)):
+        for service in (1, 2):
+            here, there = pair(kind, service, rng)
+            last = rng.randrange(1000, 2**31)
+            run.case("kind %d%s, service %d: secured here, released there" % (kind, " with OCF" if has_ocf else "", service))
+            for size in (1, 15, 16, 17, 33, 200):
+                frame = random_frame(kind, has_ocf, size, rng)
+                run.stand(here, last)
+                sent = run.secure(kind, here.spi, frame, 0)
+                run.stand(there, last)
+                for slip in slips_of(kind, has_ocf) if size in (1, 17) else ():
+                    wrong = secured_frame(here, kind, frame, last + 1, slip)
+                    assert wrong != sent, slip
+                    run.check(kind, wrong, 7)
+                released = run.check(kind, sent, 0)
+                assert released == frame[HEADER[kind] : HEADER[kind] + size]
+                run.check(kind, sent, 8)
+                last += rng.randrange(1, 64)
+            run.case("the same, with a bit changed in each octet; one that no MAC covers may change")
+            sent = secured_frame(here, kind, random_frame(kind, has_ocf, 17, rng), last + 1)
+            run.stand(there, last)
+            for i in range(len(sent)):
+                changed = bytearray(sent)
+                changed[i] ^= 1 << rng.randrange(8)
+                if run.check(kind, bytes(changed), None) is not None:
+                    run.stand(there, last)
+
+
+def old_numbers(run):
+    for service in (1, 2):
+        e = replace(RECEIVING, service=service)
+        run.case("service %d: a wrong MAC outside the window, and numbers far below the last with a right MAC" % service)
+        run.stand(e, 1000)
+        for n in (0, 999, 1000, 1101, MOST):
+            run.check(1, numbered(e, n, "another key"), 7)
+            run.check(1, numbered(e, n), 8)
+        for last in (4294967200, MOST - 1, MOST):
+            run.stand(e, last)
+            for n in (0, 1, 3, 98, 2**31, last - 2**31, last):
+                run.check(1, numbered(e, n), 8)
+        run.case("service %d: the last number is sent, and nothing after it" % service)
+        run.stand(replace(e, direction=1), MOST - 1)
+        run.secure(1, 9, C, 0)
+        run.secure(1, 9, C, 10)
+
+
+# 'What comes back': each refusal, and which of two is given
+
+
+def broken_images():
+    good, other = image_of(B), replace(B, spi=10)
+    segment = replace(B, kind=2, mask=b"\xff" * 6)
+    telemetry = replace(B, kind=3, mask=b"\xff" * 6)
+    yield from (b"", b"\x01", b"\x00\x00", b"\x02\x00", b"\x01\x00\x00", good[:-1], good + b"\x00", b"\x02" + good[1:])
+    yield from (good[:5] + bytes([x]) + good[6:] for x in (5, 7))
+    yield bytes([1, 33]) + image_of(*(replace(B, spi=i + 1) for i in range(33)))[2:]
+    yield from (image_of(replace(B, spi=x)) for x in (0, 65535))
+    yield from (image_of(B, B), image_of(other, B))
+    outside = dict(service=(0, 3), kind=(0, 4), direction=(0, 3), state=(3,), spacecraft=(1024,), window=(0, 1025), code=(2**26, 2**31))
+    yield from (image_of(replace(B, **{name: x})) for name, values in outside.items() for x in values)
+    yield from (image_of(replace(B, channel=64)), image_of(replace(telemetry, channel=8)), image_of(replace(segment, map=64)))
+    yield from (image_of(replace(B, map=1)), image_of(replace(telemetry, map=1)), image_of(replace(B, mask=b"\xff" * 5 + b"\x01")))
+    yield image_of(replace(B, spi=8, service=3), B)
+    yield image_of(B, replace(other, state=0, service=3))
+
+
+def extremes():
+    """Entries at the ends of what is allowed."""
+    yield replace(B, spi=1, window=1, spacecraft=0, channel=0, mask=bytes(6))
+    yield replace(B, spi=2, service=2, kind=2, direction=2, state=0, spacecraft=1023, channel=63, map=63, window=1024, mask=b"\xff" * 6)
+    yield replace(B, spi=65534, kind=3, state=1, channel=7, mask=b"\xff" * 6, mark=2**26 - 1, key=b"\xff" * 32)
+
+
+def image_refusals(run):
+    run.case("1: images that break a rule, under a load, a securing and a check")
+    for image in broken_images():
+        run.number(0, 63)
+        run.image(image)
+        run.load(1)
+        run.secure(1, 9, C, 1)
+        run.check(1, numbered(B, 64), 1)
+    run.case("entries at the ends of what is allowed, and 32 of them")
+    run.fresh(*extremes())
+    run.fresh(*(replace(B, spi=100 + 7 * i, direction=1 + i % 2, mark=i, key=bytes([i] * 32)) for i in range(32)))
+    run.secure(1, 100 + 7 * 30, C, 0)
+    run.check(1, secured_frame(replace(B, spi=317, key=bytes([31] * 32)), 1, C, 64 * 31 + 64), 0)
+    run.case("2: numbers that do not agree with the marks of some entry; one past the entries may be any")
+    run.fresh(B, replace(RECEIVING, spi=10))
+    run.number(2, 77)
+    run.number(31, MOST)
+    run.secure(1, 9, C, 0)
+    run.check(1, numbered(replace(B, spi=10), 64), 0)
+    for entry, n in ((1, 192), (1, 64), (0, 127), (0, MOST)):
+        run.fresh(B, replace(RECEIVING, spi=10))
+        run.number(entry, n)
+        run.secure(1, 9, C, 2)
+        run.check(1, numbered(replace(B, spi=10), 64), 2)
+
+
+def frame_refusals(run):
+    """3, of clear frames and of secured ones, under an association of their kind."""
+    for kind, ocf in ((1, b""), (2, b""), (3, b""), (3, b"ocf.")):
+        here = Entry(9, 1, kind, 1, map=9 if kind == 2 else 0, mask=MASKS[kind])
+        there, h, f, data = replace(here, direction=2), HEADER[kind], len(ocf), b"data"
+        run.case("3: kind %d%s" % (kind, " with OCF" if ocf else ""))
+        good = clear(kind, data, ocf)
+        wrong = [clear(kind, b"", ocf), good[:h], good[:3], b"", clear(kind, data, ocf, version=1), clear(kind, data, ocf, version=2)]
+        if kind == 3:
+            wrong += [tm(bytes(2049 - h - f), ocf), tm(data, ocf, status=2**15)]
+        else:
+            wrong += [clear(kind, data, control=1), clear(kind, data, spare=1), clear(kind, data, spare=2), good + b"\x00", good[:-1]]
+            wrong += [tc(1, bytes(1025 - h), segment=(3, 9) if kind == 2 else None)]
+        run.fresh(here)
+        for frame in wrong:
+            run.secure(kind, 9, frame, 3)
+        for other in (0, 4, 255):
+            run.secure(other, 9, good, 3)
+        sent = run.secure(kind, 9, clear(kind, b"d", ocf), 0, room=h + 1 + f + 22)
+        assert len(sent) == h + 1 + f + 22
+        run.fresh(there)
+        for frame in wrong + [clear(kind, b"d", ocf)]:
+            run.check(kind, frame, 3)
+        for other in (0, 4, 255):
+            run.check(other, secured_frame(here, kind, good, 64), 3)
+        run.case("5: too short for its security header, a MAC and data")
+        shortest = len(secured_frame(here, kind, clear(kind, b"d", ocf), 64))
+        for size in (h + 2 + f, shortest - 1):
+            run.check(kind, clear(kind, b"\x00\x09" + bytes(size - h - 2 - f), ocf), 5, room=0)
+        run.check(kind, clear(kind, b"\x00\x09" + bytes(shortest - h - 2 - f), ocf), 7)
+        run.check(kind, secured_frame(here, kind, clear(kind, b"d", ocf), 64), 0, room=1)
+
+
+def entry_refusals(run):
+    for kind in (1, 2, 3):
+        e, frame = replace(B, kind=kind, map=9 if kind == 2 else 0, mask=MASKS[kind]), clear(kind, b"data")
+        run.case("4: kind %d: no entry, or one that differs in what is matched" % kind)
+        changes = [dict(spi=8), dict(spi=10), dict(state=0), dict(state=1), dict(spacecraft=28), dict(channel=4)]
+        changes += [dict(kind=2 if kind == 1 else 1, map=0, mask=bytes(6))] + ([dict(map=8)] if kind == 2 else [])
+        for change in changes:
+            run.fresh(replace(e, **change))
+            run.secure(kind, 9, frame, 4)
+            run.fresh(replace(e, direction=2, **change))
+            run.check(kind, secured_frame(e, kind, frame, 64), 4)
+        run.fresh(replace(e, direction=2))
+        run.secure(kind, 9, frame, 4)
+        run.fresh(e)
+        run.check(kind, secured_frame(e, kind, frame, 64), 4)
+        for spi in (0, 65535):
+            run.secure(kind, spi, frame, 4)
+
+
+def orders(run):
+    long = clear(1, bytes(1019))
+    run.case("securing: 1 before 2, 2 before 3, 3 before 4, 4 before 11, 11 before 6, 6 before 10")
+    run.number(0, 5000)
+    run.image(image_of(replace(B, window=0)))
+    run.secure(1, 9, C, 1)
+    run.image(image_of(B))
+    run.secure(4, 9, C, 2)
+    run.load()
+    run.secure(1, 10, C + b"\x00", 3)
+    run.secure(1, 10, long, 4, room=0)
+    run.secure(1, 9, long, 11, room=0)
+    run.stand(B, MOST)
+    run.secure(1, 9, long, 11)
+    for room in (0, 27):
+        run.secure(1, 9, C, 6, room=room)
+    run.secure(1, 9, C, 10, room=28)
+    run.fresh(B)
+    run.secure(1, 9, C, 6, room=27)
+    run.secure(1, 9, C, 0, room=28)
+    run.case("checking: 1 before 2, 2 before 3, 3 before 4, 4 before 5, 5 before 6, 6 before 7 and 8, 7 before 8")
+    frame, short = tc(33, b"\x00\x09" + bytes(26)), tc(8, b"\x00\x0a\x00")
+    run.number(0, 5000)
+    run.image(image_of(replace(RECEIVING, window=0)))
+    run.check(1, frame, 1)
+    run.image(image_of(RECEIVING))
+    run.check(4, frame, 2)
+    run.load()
+    run.check(1, short + b"\x00", 3)
+    run.check(1, short, 4, room=0)
+    run.check(1, tc(8, b"\x00\x09\x00"), 5, room=0)
+    run.check(1, frame, 6, room=5)
+    run.check(1, frame, 7, room=6)
+    old = secured_frame(B, 1, tc(11, b"sextet"), 63)
+    run.check(1, old, 6, room=5)
+    run.check(1, old, 8, room=6)
+    right = secured_frame(B, 1, tc(11, b"sextet"), 64)
+    run.check(1, right, 6, room=5)
+    run.check(1, right, 0, room=6)
+
+
+def sends_in_a_row(run):
+    run.case("sends in a row: a store at 64, at 128, and at none between them")
+    run.fresh(B)
+    for n in range(64, 130):
+        run.secure(1, 9, C, 0, stores=1 if n in (64, 128) else 0)
+
+
+def longest(run):
+    run.case("the longest frames of each kind and service, and what is longer by one")
+    for kind, ocf in ((1, b""), (2, b""), (3, b""), (3, b"ocf.")):
+        for service in (1, 2):
+            here = Entry(300, service, kind, 1, map=9 if kind == 2 else 0, mask=MASKS[kind])
+            most = LARGEST[kind] - SECURITY[service] - 16 - HEADER[kind] - len(ocf)
+            run.fresh(here)
+            run.secure(kind, 300, clear(kind, bytes(most + 1), ocf), 11)
+            sent = run.secure(kind, 300, clear(kind, bytes(most), ocf), 0)
+            assert len(sent) == LARGEST[kind]
+            run.fresh(replace(here, direction=2))
+            run.check(kind, sent, 0)
+
+
+def main():
+    run, rng = Module(), random.Random(1)
+    cases_a_to_h(run)
+    cases_i_to_o(run)
+    slips(run, rng)
+    old_numbers(run)
+    image_refusals(run)
+    frame_refusals(run)
+    entry_refusals(run)
+    orders(run)
+    sends_in_a_row(run)
+    longest(run)
+    here = os.path.join(os.path.dirname(os.path.abspath(__file__)), "..", "crates", "link_cases")
+    for name, lines in (("stdin", run.lines), ("stdout", run.expected)):
+        with open(os.path.join(here, name), "w") as file:
+            file.write("\n".join(lines) + "\n")
+
+
+main()
