@@ -18,10 +18,10 @@ use Rattle.association.specs.Numbers.{greatest, accepts, spent}
 use Rattle.association.specs.Stores.{afterStores}
 use Rattle.association.specs.declared.held.Held.{Held}
 use Rattle.link.specs.Calls.{handed, refused, done, left, cut}
-use Rattle.link.specs.Protection.{securityLength, securedLength, numberIn, fieldIn, textIn, clearLength, clearData}
+use Rattle.link.specs.Protection.{securityLength, securedLength, numberIn, clearLength}
 use Rattle.link.specs.Replies.{Seen, Reply, securingTests, securing, checkingTests, checking}
 use Rattle.link.proofs.First.{none-left, passes, passed}
-use Rattle.link.proofs.ServiceLaws.{lawful}
+use Rattle.link.proofs.Reading.{length-clear-data}
 use Rattle.link.proofs.Wire as wire
 
 abbrev heldBy : Seen → Held
@@ -157,7 +157,6 @@ securing-size see kind spi frame room z =
 
 pub checking-size : (see : Seen) (right : Bool) (kind : ℕ) (frame : List ℕ) (room : ℕ) → let q = checking see right kind frame room in
     length (q .result) ≡ q .size
-unfolding checking clearLength clearData
+unfolding checking
 checking-size see right kind frame room =
-    lawful (heldBy see .service) .lengthIn (heldBy see .key) (fieldIn (heldBy see) (kindOf kind) frame)
-    (textIn (heldBy see) (kindOf kind) frame)
+    length-clear-data (heldBy see) (kindOf kind) frame

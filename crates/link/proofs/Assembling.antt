@@ -1,143 +1,169 @@
 -- The secured frame in an output, piece behind piece: the two headers, the data as it goes out, the MAC and the trailer.
 -- Assumes nothing.
-use Prim.Native.Nat.{ℕ, _+_, _-_, _≤_}
-use mathlib.Core.Path.{_≡_, refl, ap, sym, _∙_}
+use Prim.Native.Nat.{ℕ, _+_, _≤_}
+use mathlib.Core.Path.{_≡_, ap, ap₂, sym, _∙_}
 use mathlib.Core.List.{List, _++_, append-assoc}
 use native.Mathlib.Omega.{arith}
 use lib.ListN.{length, take, drop, length-append}
 use lib.Seq.{slice, take-at, drop-at}
-use Rattle.octets.specs.Numbers.{bytes}
-use Rattle.octets.proofs.Numbers.{length-bytes}
 use Rattle.frame.specs.Kinds.{Kind}
-use Rattle.frame.specs.Parts.{headerOf, trailerOf, clearData, securityOf, trailerStart}
+use Rattle.frame.specs.Parts.{headerOf, trailerOf, securityOf, trailerStart}
 use Rattle.frame.proofs.Kept.{Lawful}
-use Rattle.frame.proofs.Room.{length-clear, length-trailer}
+use Rattle.frame.proofs.Room.{length-clear}
 use Rattle.gcm.specs.Output.{written}
 use Rattle.association.specs.declared.held.Held.{Held}
-use Rattle.link.specs.Protection.{serviceIn, securityLength, coveredBefore, securedLength, fieldFor, securedFrame}
-use Rattle.link.proofs.Headers.{length-rewritten}
-use Rattle.link.proofs.ServiceLaws as services
+use Rattle.link.specs.Protection.{serviceIn, securityLength, fieldFor, coveredIn, securedLength, securedFrame}
+use Rattle.link.proofs.Wire as wire
 use Rattle.link.proofs.Writing.{behind, length-written}
 
-module _ (h : Held) (k : Kind) (law : Lawful k) (spi n : ℕ) (frame out : List ℕ) (parted : k .header frame + k .trailer frame ≤ length frame)
-    (roomy : securedLength h frame ≤ length out) where
-  abbrev pub header : List ℕ
-  header = k .withLength (securedLength h frame) (headerOf k frame)
+-- a clear frame with its parts, what it is secured under, and an output with room for the result
+pub record Securing : Type 0 where
+  pub held : Held
+  pub kind : Kind
+  pub law : Lawful kind
+  pub spi : ℕ
+  pub number : ℕ
+  pub frame : List ℕ
+  pub out : List ℕ
+  pub parted : kind .header frame + kind .trailer frame ≤ length frame
+  pub roomy : securedLength held frame ≤ length out
 
-  abbrev pub security : List ℕ
-  security = bytes 2 spi ++ fieldFor h n
+-- ---- the text so far: the headers, then the data, then the MAC
 
-  abbrev pub text : List ℕ
-  text = serviceIn h .goingOut (h .key) (drop 2 security) (clearData k frame)
+abbrev pub header : Securing → List ℕ
+header s = wire.head (s .held) (s .kind) (s .frame)
 
-  abbrev pub mac : List ℕ
-  mac = serviceIn h .mac (h .key) (drop 2 security) (coveredBefore h header security) text
+abbrev pub security : Securing → List ℕ
+security s = wire.security (s .held) (s .spi) (s .number)
 
-  pub length-header : length header ≡ k .header frame
-  length-header = length-rewritten k law frame (k .header frame) (securedLength h frame) refl (omega arith)
+abbrev pub headers : Securing → List ℕ
+headers s = header s ++ security s
 
-  pub length-security : length security ≡ securityLength h
-  length-security =
-      let a = length-append (bytes 2 spi) (fieldFor h n) in
-      let b = length-bytes 2 spi in
-      let c = length-bytes (serviceIn h .field) n in
+abbrev pub text : Securing → List ℕ
+text s = wire.text (s .held) (s .kind) (s .number) (s .frame)
+
+abbrev pub to-text : Securing → List ℕ
+to-text s = headers s ++ text s
+
+abbrev pub mac : Securing → List ℕ
+mac s = wire.mac (s .held) (s .kind) (s .spi) (s .number) (s .frame)
+
+abbrev pub to-mac : Securing → List ℕ
+to-mac s = to-text s ++ mac s
+
+module _ (s : Securing) where
+  abbrev k : Kind
+  k = s .kind
+
+  abbrev afterHeaders : ℕ
+  afterHeaders = k .header (s .frame) + securityLength (s .held)
+
+  abbrev afterText : ℕ
+  afterText = trailerStart k (s .frame) + securityLength (s .held)
+
+  length-header : length (header s) ≡ k .header (s .frame)
+  length-header = wire.length-head (s .held) k (s .law) (s .frame) (s .parted)
+
+  length-headers : length (headers s) ≡ afterHeaders
+  length-headers =
+      let a = length-append (header s) (security s) in
+      let b = wire.length-security (s .held) (s .spi) (s .number) in
+      let c = length-header in
       omega arith
 
-  abbrev pub fronted : List ℕ
-  fronted = header ++ security
+  length-to-text : length (to-text s) ≡ afterText
+  length-to-text =
+      let a = length-append (headers s) (text s) in
+      let b = length-headers in
+      let c = wire.length-text (s .held) k (s .number) (s .frame) in
+      let d = length-clear k (s .frame) (s .parted) in
+      omega (arith, s .parted)
 
-  length-headers : length fronted ≡ k .header frame + securityLength h
-  length-headers = let a = length-append header security in let b = length-header in let c = length-security in omega arith
-
-  length-text : k .header frame + length text ≡ trailerStart k frame
-  length-text =
-      let a : length text ≡ length (clearData k frame) = services.lawful (h .service) .lengthOut (h .key) (drop 2 security) (clearData k frame) in
-      let b = length-clear k frame parted in
+  length-to-mac : length (to-mac s) ≡ afterText + 16
+  length-to-mac =
+      let a = length-append (to-text s) (mac s) in
+      let b = length-to-text in
+      let c = wire.length-mac (s .held) k (s .spi) (s .number) (s .frame) in
       omega arith
-
-  pub length-mac : length mac ≡ 16
-  length-mac = services.lawful (h .service) .lengthMac (h .key) (drop 2 security) (coveredBefore h header security) text
-
-  -- where the headers stand, the kind reads them
-  module _ (first : List ℕ) (f : first ≡ written (header ++ security) out) where
-    rest : List ℕ
-    rest = security ++ drop (length (header ++ security)) out
-
-    as-built : first ≡ header ++ rest
-    unfolding rest
-    as-built = f ∙ append-assoc header security (drop (length (header ++ security)) out)
-
-    pub header-place : k .header first ≡ k .header frame
-    unfolding headerOf
-    header-place = ap (k .header) as-built ∙ law .sameHeader (securedLength h frame) frame rest (omega arith)
-
-    pub header-read : headerOf k first ≡ header
-    unfolding headerOf
-    header-read =
-        ap (λ (x : ℕ). take x first) header-place ∙ ap (take (k .header frame)) as-built ∙ take-at header rest (k .header frame) length-header
-
-    pub security-read : securityOf k (securityLength h) first ≡ security
-    unfolding securityOf
-    security-read =
-        let a : ℕ = k .header frame in
-        let b : ℕ = a + securityLength h in
-        ap (λ (x : ℕ). slice x (x + securityLength h) first) header-place
-        ∙ ap (slice a b) f
-        ∙ ap (drop a) (take-at (header ++ security) (drop (length (header ++ security)) out) b length-headers)
-        ∙ drop-at header security a length-header
 
   -- the pieces so far fit, so the output keeps its length
-  long : (t first : List ℕ) → first ≡ written t out → length t ≤ securedLength h frame → length first ≡ length out
-  long t first f l = ap length f ∙ length-written t out (omega arith)
+  long : (t whole : List ℕ) → whole ≡ written t (s .out) → length t ≤ securedLength (s .held) (s .frame) → length whole ≡ length (s .out)
+  long t whole w l = let r = s .roomy in ap length w ∙ length-written t (s .out) (omega arith)
 
-  pub long-headers : (first : List ℕ) → first ≡ written fronted out → length first ≡ length out
-  long-headers first f = let l = length-headers in long fronted first f (omega arith)
+  pub with-headers : (size : ℕ) (octets result : List ℕ) → size ≡ securedLength (s .held) (s .frame) → octets ≡ security s
+      → result ≡ written (k .withLength size (headerOf k (s .frame)) ++ octets) (s .out) → result ≡ written (headers s) (s .out)
+  with-headers size octets result e f r =
+      r ∙ ap₂ (λ (x : ℕ) (y : List ℕ). written (k .withLength x (headerOf k (s .frame)) ++ y) (s .out)) e f
 
-  pub with-text : (first : List ℕ) → first ≡ written fronted out → (a : ℕ) → a ≡ k .header frame + securityLength h
-      → take a first ++ written text (drop a first) ≡ written (fronted ++ text) out
-  with-text first f a e = behind a fronted text out first (length-headers ∙ sym e) f
+  -- a piece goes behind what stands, which is `whole`
+  module _ (whole piece result : List ℕ) where
+    next : (a : ℕ) (t p : List ℕ) → whole ≡ written t (s .out) → length t ≡ a → piece ≡ p
+        → result ≡ take a whole ++ written piece (drop a whole) → result ≡ written (t ++ p) (s .out)
+    next a t p w l e r = r ∙ ap (λ (x : List ℕ). take a whole ++ written x (drop a whole)) e ∙ behind a t p (s .out) whole l w
 
-  length-before-mac : length (fronted ++ text) ≡ trailerStart k frame + securityLength h
-  length-before-mac =
-      let a = length-append fronted text in
-      let b = length-headers in
-      let c = length-text in
-      omega arith
+  module _ (whole : List ℕ) where
+    module _ (w : whole ≡ written (headers s) (s .out)) where
+      pub long-headers : length whole ≡ length (s .out)
+      long-headers = let l = length-headers in long (headers s) whole w (omega (arith, s .parted))
 
-  pub long-text : (first : List ℕ) → first ≡ written (fronted ++ text) out → length first ≡ length out
-  long-text first f = let l = length-before-mac in long (fronted ++ text) first f (omega arith)
+      -- where the headers stand, the kind reads them
+      rest : List ℕ
+      rest = security s ++ drop (length (headers s)) (s .out)
 
-  pub with-mac : (first : List ℕ) → first ≡ written (fronted ++ text) out → (a : ℕ) → a ≡ trailerStart k frame + securityLength h
-      → take a first ++ written mac (drop a first) ≡ written ((fronted ++ text) ++ mac) out
-  with-mac first f a e = behind a (fronted ++ text) mac out first (length-before-mac ∙ sym e) f
+      as-built : whole ≡ header s ++ rest
+      unfolding rest
+      as-built = w ∙ append-assoc (header s) (security s) (drop (length (headers s)) (s .out))
 
-  length-before-trailer : length ((fronted ++ text) ++ mac) ≡ trailerStart k frame + securityLength h + 16
-  length-before-trailer =
-      let a = length-append (fronted ++ text) mac in
-      let b = length-before-mac in
-      let c = length-mac in
-      omega arith
+      pub header-place : k .header whole ≡ k .header (s .frame)
+      unfolding headerOf
+      header-place =
+          ap (k .header) as-built ∙ s .law .sameHeader (securedLength (s .held) (s .frame)) (s .frame) rest (omega (arith, s .parted))
 
-  pub long-mac : (first : List ℕ) → first ≡ written ((fronted ++ text) ++ mac) out → length first ≡ length out
-  long-mac first f = let l = length-before-trailer in long ((fronted ++ text) ++ mac) first f (omega arith)
+      pub header-read : headerOf k whole ≡ header s
+      unfolding headerOf
+      header-read =
+          ap (λ (x : ℕ). take x whole) header-place
+          ∙ ap (take (k .header (s .frame))) as-built
+          ∙ take-at (header s) rest (k .header (s .frame)) length-header
 
-  whole : ((fronted ++ text) ++ mac) ++ trailerOf k frame ≡ securedFrame h k spi n frame
-  unfolding securedFrame
-  whole =
-      let field : drop 2 security ≡ fieldFor h n = drop-at (bytes 2 spi) (fieldFor h n) 2 (length-bytes 2 spi) in
-      let out : List ℕ → List ℕ = λ f. serviceIn h .goingOut (h .key) f (clearData k frame) in
-      let a : ((fronted ++ text) ++ mac) ++ trailerOf k frame ≡ header ++ (security ++ (text ++ (mac ++ trailerOf k frame))) = simp append-assoc in
-      a
-      ∙ ap (λ (f : List ℕ). header ++ (security ++ (out f ++ (serviceIn h .mac (h .key) f (coveredBefore h header security) (out f) ++ trailerOf k frame)))) field
+      pub security-read : securityOf k (securityLength (s .held)) whole ≡ security s
+      unfolding securityOf
+      security-read =
+          ap (λ (x : ℕ). slice x (x + securityLength (s .held)) whole) header-place
+          ∙ ap (slice (k .header (s .frame)) afterHeaders) w
+          ∙ ap (drop (k .header (s .frame))) (take-at (headers s) (drop (length (headers s)) (s .out)) afterHeaders length-headers)
+          ∙ drop-at (header s) (security s) (k .header (s .frame)) length-header
 
-  pub length-secured : length (securedFrame h k spi n frame) ≡ securedLength h frame
-  length-secured =
-      let a = length-append ((fronted ++ text) ++ mac) (trailerOf k frame) in
-      let b = length-before-trailer in
-      let c = length-trailer k frame parted in
-      ap length (sym whole) ∙ omega arith
+      pub with-text : (piece result : List ℕ) → piece ≡ text s → let a = k .header whole + securityLength (s .held) in
+          result ≡ take a whole ++ written piece (drop a whole) → result ≡ written (to-text s) (s .out)
+      with-text piece result e r =
+          let a = k .header whole + securityLength (s .held) in
+          let place = ap (λ (x : ℕ). x + securityLength (s .held)) header-place in
+          next whole piece result a (headers s) (text s) w (length-headers ∙ sym place) e r
 
-  pub with-trailer : (first : List ℕ) → first ≡ written ((fronted ++ text) ++ mac) out → (a : ℕ) → a ≡ trailerStart k frame + securityLength h + 16
-      → take a first ++ written (trailerOf k frame) (drop a first) ≡ written (securedFrame h k spi n frame) out
-  with-trailer first f a e = behind a ((fronted ++ text) ++ mac) (trailerOf k frame) out first (length-before-trailer ∙ sym e) f
-      ∙ ap (λ (t : List ℕ). written t out) whole
+      pub mac-made : (field piece result : List ℕ) → field ≡ fieldFor (s .held) (s .number) → piece ≡ text s
+          → result ≡ serviceIn (s .held) .mac (s .held .key) field (coveredIn (s .held) k whole) piece → result ≡ mac s
+      mac-made field piece result e f r = cc (header-read, security-read)
+
+    module _ (w : whole ≡ written (to-text s) (s .out)) where
+      pub long-text : length whole ≡ length (s .out)
+      long-text = let l = length-to-text in long (to-text s) whole w (omega (arith, s .parted))
+
+      pub with-mac : (piece result : List ℕ) → piece ≡ mac s → (a : ℕ) → a ≡ afterText
+          → result ≡ take a whole ++ written piece (drop a whole) → result ≡ written (to-mac s) (s .out)
+      with-mac piece result e a f r = next whole piece result a (to-text s) (mac s) w (length-to-text ∙ sym f) e r
+
+    module _ (w : whole ≡ written (to-mac s) (s .out)) where
+      pub long-mac : length whole ≡ length (s .out)
+      long-mac = let l = length-to-mac in long (to-mac s) whole w (omega (arith, s .parted))
+
+      all-pieces : to-mac s ++ trailerOf k (s .frame) ≡ securedFrame (s .held) k (s .spi) (s .number) (s .frame)
+      unfolding securedFrame
+      all-pieces = simp append-assoc
+
+      pub with-trailer : (piece result : List ℕ) → piece ≡ trailerOf k (s .frame) → (a : ℕ) → a ≡ afterText + 16
+          → result ≡ take a whole ++ written piece (drop a whole)
+          → result ≡ written (securedFrame (s .held) k (s .spi) (s .number) (s .frame)) (s .out)
+      with-trailer piece result e a f r =
+          next whole piece result a (to-mac s) (trailerOf k (s .frame)) w (length-to-mac ∙ sym f) e r
+          ∙ ap (λ (t : List ℕ). written t (s .out)) all-pieces

@@ -5,19 +5,17 @@ use Prim.Native.Nat.{ℕ}
 use mathlib.Core.Path.{_≡_}
 use mathlib.Core.Bool.{true, false}
 use mathlib.Core.List.{List}
-use lib.ListN.{length}
 use Rattle.frame.specs.Kinds.{kindOf}
 use Rattle.frame.specs.Rules.{obeys}
-use Rattle.association.specs.Association.{associationOf, heldIn, one, matching}
+use Rattle.association.specs.Association.{matching}
 use Rattle.association.specs.Image.{validImage}
 use Rattle.association.specs.Numbers.{agrees}
 use Rattle.association.specs.Search.{entryFor}
 use Rattle.association.specs.declared.search.Found.the-variants as found
 use Rattle.link.specs.Answers.{first}
-use Rattle.link.specs.Calls.{Left, refused, left, securingWants, securingReply, secured}
-use Rattle.link.specs.Calls.{checkingWants, comparison, checkingReply, checkedAs, checked}
-use Rattle.link.specs.Protection.{macRight}
-use Rattle.link.specs.Replies.{seen, seeing, securingTests, securing, checkingTests, checking}
+use Rattle.link.specs.Calls.{refused, securingWants, securingReply, secured, securedUnder}
+use Rattle.link.specs.Calls.{checkingWants, comparison, checkingReply, checkedAs, checked, checkedUnder}
+use Rattle.link.specs.Replies.{seen, securingTests, securing, checkingTests, checking}
 
 module _ (image last : List ℕ) (kind spi : ℕ) (frame output : List ℕ) where
   pub secured-bad-image : validImage image ≡ false → secured image last kind spi frame output ≡ refused 1 image last output
@@ -30,7 +28,8 @@ module _ (image last : List ℕ) (kind spi : ℕ) (frame output : List ℕ) wher
     secured-bad-marks a = rw (v, a)
 
     module _ (a : agrees image last ≡ true) where
-      pub secured-bad-frame : obeys (kindOf kind) frame false ≡ false → secured image last kind spi frame output ≡ refused 3 image last output
+      pub secured-bad-frame : obeys (kindOf kind) frame false ≡ false
+          → secured image last kind spi frame output ≡ refused 3 image last output
       unfolding secured securingReply securing securingTests seen first
       secured-bad-frame o = rw (v, a, o)
 
@@ -41,8 +40,7 @@ module _ (image last : List ℕ) (kind spi : ℕ) (frame output : List ℕ) wher
         secured-no-entry n = rw (v, a, o, n)
 
         pub secured-under : (e : ℕ) → entryFor image (securingWants kind spi frame) ≡ found.At e
-            → secured image last kind spi frame output
-            ≡ left (securing (seeing (one (associationOf image last e))) kind spi frame (length output)) e image last output
+            → secured image last kind spi frame output ≡ securedUnder image last e kind spi frame output
         unfolding secured securingReply seen matching
         secured-under e f = rw (v, a, f)
 
@@ -68,8 +66,6 @@ module _ (image last : List ℕ) (kind : ℕ) (frame output : List ℕ) where
         checked-no-entry n = rw (v, a, o, n)
 
         pub checked-under : (e : ℕ) → entryFor image (checkingWants kind frame) ≡ found.At e
-            → let b = associationOf image last e in
-            checked image last kind frame output
-            ≡ left (checking (seeing (one b)) (macRight (heldIn b) (kindOf kind) frame) kind frame (length output)) e image last output
+            → checked image last kind frame output ≡ checkedUnder image last e kind frame output
         unfolding checked checkedAs comparison checkingReply seen matching
         checked-under e f = rw (v, a, f)

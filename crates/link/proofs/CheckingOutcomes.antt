@@ -1,5 +1,5 @@
--- What checking leaves under the entry that matches, test by test: the first of 5, 6, 7 and 8 that applies refuses, and where none applies the
--- clear data is released.
+-- What checking leaves under the entry that matches, test by test: the first of 5, 6, 7 and 8 that applies refuses, and where none applies
+-- the clear data is released.
 -- Assumes nothing.
 use Prim.Native.Nat.{ℕ}
 use mathlib.Core.Path.{_≡_}
@@ -13,45 +13,67 @@ use Rattle.frame.specs.Rules.{obeys}
 use Rattle.association.specs.Association.{Association, heldIn, one}
 use Rattle.association.specs.Numbers.{accepts}
 use Rattle.association.specs.Stores.{afterStores}
+use Rattle.association.specs.declared.held.Held.{Held}
 use Rattle.link.specs.Answers.{first}
 use Rattle.link.specs.Calls.{Left, refused, left}
 use Rattle.link.specs.Protection.{securityLength, numberIn, clearData, clearLength}
 use Rattle.link.specs.Replies.{seeing, storesTo, checkingTests, checking}
 
-module _ (number : ℕ) (k : Kind) (e : kindOf number ≡ k) (a : Association) (right : Bool) (entry : ℕ) (frame image last output : List ℕ)
-    (ok : obeys k frame true ≡ true) where
+-- a frame that obeys its kind, the association that matches and how its comparison of the MAC falls out, and all that the call may change
+pub record Checking : Type 0 where
+  pub number : ℕ
+  pub kind : Kind
+  pub named : kindOf number ≡ kind
+  pub association : Association
+  pub right : Bool
+  pub entry : ℕ
+  pub frame : List ℕ
+  pub image : List ℕ
+  pub last : List ℕ
+  pub output : List ℕ
+  pub obeying : obeys kind frame true ≡ true
+
+module _ (x : Checking) where
+  abbrev h : Held
+  h = heldIn (x .association)
+
+  abbrev n : ℕ
+  n = numberIn h (x .kind) (x .frame)
+
   abbrev outcome : Left
-  outcome = left (checking (seeing (one a)) right number frame (length output)) entry image last output
+  outcome =
+      left (checking (seeing (one (x .association))) (x .right) (x .number) (x .frame) (length (x .output))) (x .entry) (x .image) (x .last)
+      (x .output)
 
-  pub too-short : tooShort k (securityLength (heldIn a)) frame ≡ true → outcome ≡ refused 5 image last output
+  pub too-short : tooShort (x .kind) (securityLength h) (x .frame) ≡ true → outcome ≡ refused 5 (x .image) (x .last) (x .output)
   unfolding checking checkingTests first
-  too-short t = rw (e, ok, t)
+  too-short t = rw (x .named, x .obeying, t)
 
-  module _ (long : tooShort k (securityLength (heldIn a)) frame ≡ false) where
-    pub no-room : ltb (length output) (clearLength (heldIn a) k frame) ≡ true → outcome ≡ refused 6 image last output
+  module _ (long : tooShort (x .kind) (securityLength h) (x .frame) ≡ false) where
+    pub no-room : ltb (length (x .output)) (clearLength h (x .kind) (x .frame)) ≡ true
+        → outcome ≡ refused 6 (x .image) (x .last) (x .output)
     unfolding checking checkingTests first
-    no-room t = rw (e, ok, long, t)
+    no-room t = rw (x .named, x .obeying, long, t)
 
-    module _ (room : ltb (length output) (clearLength (heldIn a) k frame) ≡ false) where
-      pub wrong-mac : right ≡ false → outcome ≡ refused 7 image last output
+    module _ (room : ltb (length (x .output)) (clearLength h (x .kind) (x .frame)) ≡ false) where
+      pub wrong-mac : x .right ≡ false → outcome ≡ refused 7 (x .image) (x .last) (x .output)
       unfolding checking checkingTests first
-      wrong-mac t = rw (e, ok, long, room, t)
+      wrong-mac t = rw (x .named, x .obeying, long, room, t)
 
-      module _ (signed : right ≡ true) where
-        pub outside : accepts (a .number) (heldIn a .window) (numberIn (heldIn a) k frame) ≡ false → outcome ≡ refused 8 image last output
+      module _ (signed : x .right ≡ true) where
+        pub outside : accepts (x .association .number) (h .window) n ≡ false → outcome ≡ refused 8 (x .image) (x .last) (x .output)
         unfolding checking checkingTests first
-        outside t = rw (e, ok, long, room, signed, t)
+        outside t = rw (x .named, x .obeying, long, room, signed, t)
 
-        pub comes-in : accepts (a .number) (heldIn a .window) (numberIn (heldIn a) k frame) ≡ true
-            → let n = numberIn (heldIn a) k frame in
-            outcome
+        pub comes-in : accepts (x .association .number) (h .window) n ≡ true
+            → outcome
             ≡ record {
               answer = 0;
-              length = clearLength (heldIn a) k frame;
-              stores = storesTo a n;
-              image = afterStores image entry n (storesTo a n);
-              numbers = set last entry n;
-              output = clearData (heldIn a) k frame ++ drop (clearLength (heldIn a) k frame) output;
+              length = clearLength h (x .kind) (x .frame);
+              stores = storesTo (x .association) n;
+              image = afterStores (x .image) (x .entry) n (storesTo (x .association) n);
+              numbers = set (x .last) (x .entry) n;
+              output = clearData h (x .kind) (x .frame) ++ drop (clearLength h (x .kind) (x .frame)) (x .output);
             }
         unfolding checking checkingTests first
-        comes-in t = rw (e, ok, long, room, signed, t)
+        comes-in t = rw (x .named, x .obeying, long, room, signed, t)

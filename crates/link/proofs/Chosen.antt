@@ -1,11 +1,11 @@
 -- The service that a number names: 2 is authenticated encryption, and every other number reads as authentication.
 -- Assumes nothing.
-use Prim.Native.Nat.{ℕ, _≤_}
+use Prim.Native.Nat.{ℕ}
 use mathlib.Core.Path.{_≡_}
 use mathlib.Core.Logic.{_≢_}
 use mathlib.Core.Bool.{Bool, true, false, cond}
 use borrow.Author.Tests.{eq-eqb, ne-eqb}
-use lib.Dec.{eqb, lit≤}
+use lib.Dec.{eqb}
 use Rattle.link.specs.Services.{Service, service, authentication, authenticatedEncryption}
 
 pub encrypts : (n : ℕ) → n ≡ 2 → service n ≡ authenticatedEncryption
@@ -24,7 +24,3 @@ either P a e n = of (eqb n 2)
     of : (b : Bool) → P (cond b authenticatedEncryption authentication)
     of true = e
     of false = a
-
--- the longest field has twelve octets
-pub field-most : (n : ℕ) → service n .field ≤ 12
-field-most n = either (λ s. s .field ≤ 12) (lit≤ tt) (lit≤ tt) n

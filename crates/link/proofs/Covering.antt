@@ -1,7 +1,8 @@
--- What the MAC covers before the data, written in two pieces: the masked header, then the security header as it stands. Twenty octets hold it.
+-- What the MAC covers before the data, written in two pieces: the masked header, then the security header as it stands. Twenty octets hold
+-- it.
 -- Assumes nothing.
 use Prim.Native.Nat.{ℕ, _+_, _-_, _≤_}
-use mathlib.Core.Path.{_≡_, refl, ap, sym, _∙_}
+use mathlib.Core.Path.{_≡_, refl, ap, _∙_}
 use mathlib.Core.List.{List, _++_}
 use native.Mathlib.Nat.{add-sub-cancel-left}
 use native.Mathlib.Omega.{arith}
@@ -16,11 +17,12 @@ use Rattle.frame.proofs.Masking.{length-masked}
 use Rattle.frame.proofs.Sizes.{header-most}
 use Rattle.gcm.specs.Output.{written}
 use Rattle.association.specs.declared.held.Held.{Held}
-use Rattle.link.specs.Protection.{securityLength, coveredBefore}
+use Rattle.link.specs.Protection.{securityLength, coveredBefore, coveredIn}
 use Rattle.link.proofs.ServiceLaws.{lawful}
 use Rattle.link.proofs.Writing.{slice-as-part, length-written, behind}
 
-module _ (k : Kind) (mask frame out : List ℕ) (h s : ℕ) (e : h ≡ k .header frame) (inFrame : h + s ≤ length frame) (inOut : h + s ≤ length out) where
+module _ (k : Kind) (mask frame out : List ℕ) (h s : ℕ) (e : h ≡ k .header frame) (inFrame : h + s ≤ length frame)
+    (inOut : h + s ≤ length out) where
   length-first : length (masked mask (headerOf k frame)) ≡ h
   unfolding headerOf
   length-first = rw (length-masked mask (take (k .header frame) frame), ← e) (length-take-le h frame (omega arith))
@@ -73,7 +75,7 @@ module _ (h : Held) (kind : code.Kind) (frame : List ℕ) where
         long-covered (kindIs kind) (h .mask) frame (replicate 20 0) (kindIs kind .header frame) s refl fits (omega arith) whole w
 
     pub front : take (kindIs kind .header frame + s) whole
-        ≡ coveredBefore h (headerOf (kindIs kind) frame) (securityOf (kindIs kind) (securityLength h) frame)
+        ≡ coveredIn h (kindIs kind) frame
     unfolding coveredBefore
     front =
         let t = at-most-twenty in

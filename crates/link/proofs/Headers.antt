@@ -1,6 +1,6 @@
 -- The two headers at the front of an output: a frame's header, its length rewritten where it stands, and the security header behind it.
 -- Assumes nothing.
-use Prim.Native.Nat.{ℕ, _+_, _≤_}
+use Prim.Native.Nat.{ℕ, _≤_}
 use mathlib.Core.Path.{_≡_, ap, ap₂, sym, _∙_}
 use mathlib.Core.List.{List, _++_}
 use lib.ListN.{length, take, drop}
@@ -22,5 +22,8 @@ module _ (k : Kind) (law : Lawful k) (frame : List ℕ) (h n : ℕ) (e : h ≡ k
   rewritten-front out first changed f g =
       let l = length-take-le h frame fits in
       let t : take h first ≡ take h frame = ap (take h) f ∙ take-at (take h frame) (drop (length (take h frame)) out) h l in
-      let d : drop h first ≡ drop h out = ap (drop h) f ∙ drop-at (take h frame) (drop (length (take h frame)) out) h l ∙ ap (λ (x : ℕ). drop x out) l in
-      ap₂ (λ (a b : List ℕ). a ++ b) (g ∙ ap (k .withLength n) (t ∙ ap (λ (x : ℕ). take x frame) e)) (d ∙ ap (λ (x : ℕ). drop x out) (sym length-rewritten))
+      let d : drop h first ≡ drop h out =
+      ap (drop h) f ∙ drop-at (take h frame) (drop (length (take h frame)) out) h l ∙ ap (λ (x : ℕ). drop x out) l
+      in
+      ap₂ (λ (a b : List ℕ). a ++ b) (g ∙ ap (k .withLength n) (t ∙ ap (λ (x : ℕ). take x frame) e))
+      (d ∙ ap (λ (x : ℕ). drop x out) (sym length-rewritten))

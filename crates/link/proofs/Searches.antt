@@ -18,7 +18,6 @@ use Rattle.association.proofs.Finding.{found-at, found-nothing}
 pub record Finds (image last : List ℕ) (w : Wanted) (i : ℕ) : Type 0 where
   pub below : i < countOf image
   pub passes : matches image w i ≡ true
-  pub index : entryFor image w ≡ found.At i
   pub match : matching image last w ≡ one (associationOf image last i)
   pub some : isNone (matching image last w) ≡ false
   pub association : theOne (matching image last w) ≡ associationOf image last i
@@ -31,7 +30,6 @@ finds-at image last w i e =
     record {
       below = omega (arith, f .to);
       passes = f .passes;
-      index = e;
       match = ap (matchAt image last) e;
       some = ap (λ (x : Found). isNone (matchAt image last x)) e;
       association = ap (λ (x : Found). theOne (matchAt image last x)) e;

@@ -1,8 +1,8 @@
--- What securing leaves under the entry that matches, test by test: the first of 11, 6 and 10 that applies refuses, and where none applies the
--- secured frame goes out.
+-- What securing leaves under the entry that matches, test by test: the first of 11, 6 and 10 that applies refuses, and where none applies
+-- the secured frame goes out.
 -- Assumes nothing.
-use Prim.Native.Nat.{ℕ, _+_, _-_, _/_, _≤_}
-use mathlib.Core.Path.{_≡_, refl}
+use Prim.Native.Nat.{ℕ, _+_}
+use mathlib.Core.Path.{_≡_}
 use mathlib.Core.Bool.{true, false}
 use mathlib.Core.List.{List, _++_}
 use lib.Dec.{ltb}
@@ -13,39 +13,61 @@ use Rattle.frame.specs.Rules.{obeys}
 use Rattle.association.specs.Association.{Association, heldIn, one}
 use Rattle.association.specs.Numbers.{spent}
 use Rattle.association.specs.Stores.{afterStores}
+use Rattle.association.specs.declared.held.Held.{Held}
 use Rattle.link.specs.Answers.{first}
 use Rattle.link.specs.Calls.{Left, refused, left}
 use Rattle.link.specs.Protection.{securityLength, securedLength, securedFrame}
 use Rattle.link.specs.Replies.{seeing, storesTo, securingTests, securing}
 
-module _ (number : ℕ) (k : Kind) (e : kindOf number ≡ k) (a : Association) (spi entry : ℕ) (frame image last output : List ℕ)
-    (ok : obeys k frame false ≡ true) where
+-- a frame that obeys its kind, the association that matches, and all that the call may change
+pub record Securing : Type 0 where
+  pub number : ℕ
+  pub kind : Kind
+  pub named : kindOf number ≡ kind
+  pub association : Association
+  pub spi : ℕ
+  pub entry : ℕ
+  pub frame : List ℕ
+  pub image : List ℕ
+  pub last : List ℕ
+  pub output : List ℕ
+  pub obeying : obeys kind frame false ≡ true
+
+module _ (x : Securing) where
+  abbrev h : Held
+  h = heldIn (x .association)
+
+  abbrev n : ℕ
+  n = x .association .number + 1
+
   abbrev outcome : Left
-  outcome = left (securing (seeing (one a)) number spi frame (length output)) entry image last output
+  outcome =
+      left (securing (seeing (one (x .association))) (x .number) (x .spi) (x .frame) (length (x .output))) (x .entry) (x .image) (x .last)
+      (x .output)
 
-  pub too-long : exceeds k (securityLength (heldIn a)) frame ≡ true → outcome ≡ refused 11 image last output
+  pub too-long : exceeds (x .kind) (securityLength h) (x .frame) ≡ true → outcome ≡ refused 11 (x .image) (x .last) (x .output)
   unfolding securing securingTests first
-  too-long t = rw (e, ok, t)
+  too-long t = rw (x .named, x .obeying, t)
 
-  module _ (fits : exceeds k (securityLength (heldIn a)) frame ≡ false) where
-    pub no-room : ltb (length output) (securedLength (heldIn a) frame) ≡ true → outcome ≡ refused 6 image last output
+  module _ (fits : exceeds (x .kind) (securityLength h) (x .frame) ≡ false) where
+    pub no-room : ltb (length (x .output)) (securedLength h (x .frame)) ≡ true → outcome ≡ refused 6 (x .image) (x .last) (x .output)
     unfolding securing securingTests first
-    no-room t = rw (e, ok, fits, t)
+    no-room t = rw (x .named, x .obeying, fits, t)
 
-    module _ (room : ltb (length output) (securedLength (heldIn a) frame) ≡ false) where
-      pub all-spent : spent (a .number) ≡ true → outcome ≡ refused 10 image last output
+    module _ (room : ltb (length (x .output)) (securedLength h (x .frame)) ≡ false) where
+      pub all-spent : spent (x .association .number) ≡ true → outcome ≡ refused 10 (x .image) (x .last) (x .output)
       unfolding securing securingTests first
-      all-spent t = rw (e, ok, fits, room, t)
+      all-spent t = rw (x .named, x .obeying, fits, room, t)
 
-      pub goes-out : spent (a .number) ≡ false
+      pub goes-out : spent (x .association .number) ≡ false
           → outcome
           ≡ record {
             answer = 0;
-            length = securedLength (heldIn a) frame;
-            stores = storesTo a (a .number + 1);
-            image = afterStores image entry (a .number + 1) (storesTo a (a .number + 1));
-            numbers = set last entry (a .number + 1);
-            output = securedFrame (heldIn a) k spi (a .number + 1) frame ++ drop (securedLength (heldIn a) frame) output;
+            length = securedLength h (x .frame);
+            stores = storesTo (x .association) n;
+            image = afterStores (x .image) (x .entry) n (storesTo (x .association) n);
+            numbers = set (x .last) (x .entry) n;
+            output = securedFrame h (x .kind) (x .spi) n (x .frame) ++ drop (securedLength h (x .frame)) (x .output);
           }
       unfolding securing securingTests first
-      goes-out t = rw (e, ok, fits, room, t)
+      goes-out t = rw (x .named, x .obeying, fits, room, t)

@@ -3,16 +3,15 @@
 -- Assumes nothing.
 use Prim.Native.Nat.{ℕ, _^_, _≤_, _<_}
 use mathlib.Core.Path.{_≡_, refl}
-use mathlib.Core.Bool.{Bool, true, false, cond}
 use mathlib.Core.List.{List, _++_}
 use native.Mathlib.Omega.{arith}
-use lib.Dec.{eqb}
 use lib.ListN.{length}
 use Rattle.octets.specs.Lists.{Octets}
 use Rattle.cmac.proofs.Laws.{length-cmac, octets-cmac}
 use Rattle.gcm.proofs.Laws.{length-ciphertext, length-plaintext, length-tag, decrypted-back}
 use Rattle.gcm.proofs.Laws.{octets-ciphertext, octets-plaintext, octets-tag}
 use Rattle.link.specs.Services.{Service, authentication, authenticatedEncryption, service}
+use Rattle.link.proofs.Chosen.{either}
 
 pub record Lawful (s : Service) : Type 0 where
   pub short : s .field ≤ 12
@@ -53,10 +52,5 @@ encryption-lawful =
       octetsMac = octets-tag;
     }
 
-either : (t : Bool) → Lawful (cond t authenticatedEncryption authentication)
-either true = encryption-lawful
-either false = authentication-lawful
-
 pub lawful : (number : ℕ) → Lawful (service number)
-unfolding service
-lawful number = either (eqb number 2)
+lawful number = either Lawful authentication-lawful encryption-lawful number

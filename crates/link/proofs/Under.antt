@@ -1,7 +1,8 @@
--- What a call reads of the entry that matches is what its association holds, and agreement makes the count of stores a difference of numbers.
+-- What a call reads of the entry that matches is what its association holds, and agreement makes the count of stores a difference of
+-- numbers.
 -- Assumes nothing.
 use Prim.Native.Nat.{ℕ, _-_, _/_, _<_}
-use mathlib.Core.Path.{_≡_, refl, ap, sym}
+use mathlib.Core.Path.{_≡_, refl, ap}
 use mathlib.Core.Bool.{true}
 use mathlib.Core.List.{List}
 use Rattle.association.specs.Association.{associationOf, heldIn, held}

@@ -1,25 +1,15 @@
--- The window's test in two parts of a number: with a multiple of 2^32 in it a number is above the greatest, and without one it is its lower part.
+-- The window's test in two parts of a number: with a multiple of 2^32 in it a number is above the greatest, and without one it is its lower
+-- part.
 -- Assumes nothing.
 use Prim.Native.Nat.{ℕ, zero, suc, _+_, _*_, _<_}
-use mathlib.Core.Path.{_≡_, refl, ap, sym, _∙_}
-use mathlib.Core.Bool.{Bool, true, false, not, _&&_, Bool·not-not}
+use mathlib.Core.Path.{_≡_}
+use mathlib.Core.Bool.{true, false, _&&_, and-true, and-false}
 use native.Mathlib.Nat.{zero-add, zero-mul, suc-mul}
 use native.Mathlib.Omega.{arith}
 use borrow.Author.Tests.{le-leb, lt-leb, ne-eqb}
 use lib.Dec.{eqb, leb, ltb}
 use Rattle.association.specs.Numbers.{accepts}
 use Rattle.association.proofs.Agreement.{accepted}
-
-and-true : (b : Bool) → (b && true) ≡ b
-and-true true = refl
-and-true false = refl
-
-and-false : (b : Bool) → (b && false) ≡ false
-and-false true = refl
-and-false false = refl
-
-pub flipped : (r s : Bool) → not r ≡ s → r ≡ not s
-flipped r s e = sym (Bool·not-not r) ∙ ap not e
 
 pub accepts-parts : (last window above n : ℕ) → n < 4294967296
     → ((eqb above 0 && ltb last n) && leb n (last + window)) ≡ accepts last window (above * 4294967296 + n)

@@ -23,7 +23,7 @@ use Rattle.frame.proofs.Kept.{Kept, built, obeys-again}
 use Rattle.frame.proofs.Room.{Obeys, obeyed, length-header, length-trailer}
 use Rattle.association.specs.declared.held.Held.{Held}
 use Rattle.link.specs.Protection.{serviceIn, securityLength, fieldFor, numberFrom, coveredBefore, securedLength, securedFrame}
-use Rattle.link.specs.Protection.{spiIn, fieldIn, textIn, numberIn, macRight, clearData, clearLength}
+use Rattle.link.specs.Protection.{coveredIn, spiIn, fieldIn, textIn, numberIn, macRight, clearData, clearLength}
 use Rattle.link.proofs.ServiceLaws.{Lawful, lawful}
 
 -- ---- where a reader finds the number, in any frame
@@ -44,18 +44,41 @@ number-read h k frame =
 
 -- ---- the parts, as securing makes them
 
-abbrev head : Held → Kind → List ℕ → List ℕ
+abbrev pub head : Held → Kind → List ℕ → List ℕ
 head h k clear = k .withLength (securedLength h clear) (headerOf k clear)
 
-abbrev security : Held → ℕ → ℕ → List ℕ
+abbrev pub security : Held → ℕ → ℕ → List ℕ
 security h spi n = bytes 2 spi ++ fieldFor h n
 
-abbrev text : Held → Kind → ℕ → List ℕ → List ℕ
+abbrev pub text : Held → Kind → ℕ → List ℕ → List ℕ
 text h k n clear = serviceIn h .goingOut (h .key) (fieldFor h n) (parts.clearData k clear)
 
-abbrev mac : Held → Kind → ℕ → ℕ → List ℕ → List ℕ
+abbrev pub mac : Held → Kind → ℕ → ℕ → List ℕ → List ℕ
 mac h k spi n clear =
     serviceIn h .mac (h .key) (fieldFor h n) (coveredBefore h (head h k clear) (security h spi n)) (text h k n clear)
+
+pub length-security : (h : Held) (spi n : ℕ) → length (security h spi n) ≡ securityLength h
+length-security h spi n = length-append (bytes 2 spi) (fieldFor h n) ∙ ap₂ _+_ (length-bytes 2 spi) (length-bytes (serviceIn h .field) n)
+
+pub length-text : (h : Held) (k : Kind) (n : ℕ) (clear : List ℕ) → length (text h k n clear) ≡ length (parts.clearData k clear)
+length-text h k n clear = lawful (h .service) .lengthOut (h .key) (fieldFor h n) (parts.clearData k clear)
+
+pub length-mac : (h : Held) (k : Kind) (spi n : ℕ) (clear : List ℕ) → length (mac h k spi n clear) ≡ 16
+length-mac h k spi n clear =
+    lawful (h .service) .lengthMac (h .key) (fieldFor h n) (coveredBefore h (head h k clear) (security h spi n)) (text h k n clear)
+
+module _ (h : Held) (k : Kind) (law : frames.Lawful k) (clear : List ℕ) (room : k .header clear + k .trailer clear ≤ length clear) where
+  pub length-head : length (head h k clear) ≡ k .header clear
+  length-head = law .long (securedLength h clear) (headerOf k clear) ∙ length-header k clear room
+
+  pub length-whole : (spi n : ℕ) → length (securedFrame h k spi n clear) ≡ securedLength h clear
+  unfolding securedFrame
+  length-whole spi n =
+      assembled.length-securing k clear (head h k clear) (security h spi n) (text h k n clear) (mac h k spi n clear) room length-head
+      (length-text h k n clear) (length-mac h k spi n clear)
+      ∙ ap (λ (s : ℕ). parts.securedLength s clear) (length-security h spi n)
+
+-- ---- a secured frame, under a kind that a number names
 
 module _ (h : Held) (kind spi n : ℕ) (clear : List ℕ) (obeying : obeys (kindOf kind) clear false ≡ true)
     (small : securedLength h clear ≤ kindOf kind .largest) where
@@ -81,21 +104,11 @@ module _ (h : Held) (kind spi n : ℕ) (clear : List ℕ) (obeying : obeys (kind
   unfolding securedFrame rest
   shape = refl
 
-  length-head : length (head h k clear) ≡ k .header clear
-  length-head = frames.lawful kind .long (securedLength h clear) (headerOf k clear) ∙ length-header k clear room
-
-  long-security : length (security h spi n) ≡ securityLength h
-  long-security = length-append (bytes 2 spi) (fieldFor h n) ∙ ap₂ _+_ (length-bytes 2 spi) (length-bytes (serviceIn h .field) n)
-
   long-mac : length (mac h k spi n clear) ≡ 16
-  long-mac = law .lengthMac (h .key) (fieldFor h n) (coveredBefore h (head h k clear) (security h spi n)) (text h k n clear)
+  long-mac = length-mac h k spi n clear
 
   pub length-secured : length S ≡ securedLength h clear
-  unfolding securedFrame
-  length-secured =
-      assembled.length-securing k clear (head h k clear) (security h spi n) (text h k n clear) (mac h k spi n clear) room length-head
-      (law .lengthOut (h .key) (fieldFor h n) (parts.clearData k clear)) long-mac
-      ∙ ap (λ (s : ℕ). parts.securedLength s clear) long-security
+  length-secured = length-whole h k (frames.lawful kind) clear room spi n
 
   shape-built : S ≡ built k (securedLength h clear) clear rest
   unfolding headerOf
@@ -116,7 +129,7 @@ module _ (h : Held) (kind spi n : ℕ) (clear : List ℕ) (obeying : obeys (kind
   -- ---- the parts, as a reader cuts them out
 
   at-head : length (head h k clear) ≡ k .header S
-  at-head = length-head ∙ sym (kept .header)
+  at-head = length-head h k (frames.lawful kind) clear room ∙ sym (kept .header)
 
   at-trailer : length (trailerOf k clear) ≡ k .trailer S
   at-trailer = length-trailer k clear room ∙ sym (kept .trailer)
@@ -130,14 +143,14 @@ module _ (h : Held) (kind spi n : ℕ) (clear : List ℕ) (obeying : obeys (kind
   security-read : securityOf k (securityLength h) S ≡ security h spi n
   unfolding securedFrame
   security-read =
-      ap (λ (s : ℕ). securityOf k s S) (sym long-security)
+      ap (λ (s : ℕ). securityOf k s S) (sym (length-security h spi n))
       ∙ assembled.security-read k (head h k clear) (security h spi n) (text h k n clear) (mac h k spi n clear) (trailerOf k clear) at-head
       long-mac at-trailer
 
   pub text-read : textIn h k S ≡ text h k n clear
   unfolding securedFrame textIn
   text-read =
-      ap (λ (s : ℕ). securedData k s S) (sym long-security)
+      ap (λ (s : ℕ). securedData k s S) (sym (length-security h spi n))
       ∙ assembled.text-read k (head h k clear) (security h spi n) (text h k n clear) (mac h k spi n clear) (trailerOf k clear) at-head
       long-mac at-trailer
 
@@ -161,7 +174,7 @@ module _ (h : Held) (kind spi n : ℕ) (clear : List ℕ) (obeying : obeys (kind
 
   pub right-secured : macRight h k S ≡ true
   unfolding macRight
-  right-secured = rw (header-read, security-read, field-read, text-read, mac-read) (same-refl (mac h k spi n clear))
+  right-secured = rw (coveredIn, header-read, security-read, field-read, text-read, mac-read) (same-refl (mac h k spi n clear))
 
   pub number-secured : n < 2 ^ 32 → numberIn h k S ≡ n
   unfolding numberIn
@@ -173,7 +186,7 @@ module _ (h : Held) (kind spi n : ℕ) (clear : List ℕ) (obeying : obeys (kind
 
   pub length-data : clearLength h k S ≡ length (parts.clearData k clear)
   unfolding clearLength
-  length-data = ap length text-read ∙ law .lengthOut (h .key) (fieldFor h n) (parts.clearData k clear)
+  length-data = ap length text-read ∙ length-text h k n clear
 
   pub not-short : tooShort k (securityLength h) S ≡ false
   not-short =

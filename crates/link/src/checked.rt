@@ -16,11 +16,11 @@ ghost use Rattle.octets.specs.Lists.{part};
 ghost use Rattle.frame.specs.Kinds.{kindIs};
 ghost use Rattle.frame.specs.Parts.{securedParts};
 ghost use Rattle.gcm.specs.Output.{written};
-ghost use Rattle.link.specs.Protection.{securityLength, numberIn, macRight, clearData, clearLength};
+ghost use Rattle.link.specs.Protection.{securityLength, Parted, numberIn, macRight, clearData, clearLength};
 
 // Where the parts end. They lie in the frame one behind the other.
 fn parts_of(kind: Kind, held: Held, frame: &[u8]) -> SecuredParts
-    requires { ⌜ kindIs kind .header (now frame) + securityLength held + 17 + kindIs kind .trailer (now frame) ≤ length (now frame) ⌝ }
+    requires { ⌜ Parted held (kindIs kind) (now frame) ⌝ }
     ensures { λ r. ⌜ r ≡ securedParts (kindIs kind) (securityLength held) (now (frame .entry)) ⌝ }
     ensures { λ r. ⌜ (r .header ≤ r .security) × (r .security - r .header ≡ securityLength held) × (r .security ≤ r .content) × (r .content + 16 ≤ length (now (frame .entry))) ⌝ }
 {
@@ -41,7 +41,7 @@ fn block_at(frame: &[u8], at: usize) -> [u8; 16]
 }
 
 pub(crate) fn clear_length(kind: Kind, held: Held, frame: &[u8]) -> usize
-    requires { ⌜ kindIs kind .header (now frame) + securityLength held + 17 + kindIs kind .trailer (now frame) ≤ length (now frame) ⌝ }
+    requires { ⌜ Parted held (kindIs kind) (now frame) ⌝ }
     ensures { λ r. ⌜ r ≡ clearLength held (kindIs kind) (now (frame .entry)) ⌝ }
 {
     let parts = parts_of(kind, held, frame);
@@ -49,7 +49,7 @@ pub(crate) fn clear_length(kind: Kind, held: Held, frame: &[u8]) -> usize
 }
 
 pub(crate) fn number_of(kind: Kind, held: Held, frame: &[u8]) -> Sequence
-    requires { ⌜ kindIs kind .header (now frame) + securityLength held + 17 + kindIs kind .trailer (now frame) ≤ length (now frame) ⌝ }
+    requires { ⌜ Parted held (kindIs kind) (now frame) ⌝ }
     ensures { λ r. ⌜ r .above * 4294967296 + r .number ≡ numberIn held (kindIs kind) (now (frame .entry)) ⌝ }
 {
     let number = held.service;
@@ -61,7 +61,7 @@ pub(crate) fn number_of(kind: Kind, held: Held, frame: &[u8]) -> Sequence
 
 // The whole MAC is compared, with no early exit.
 pub(crate) fn mac_right(kind: Kind, held: Held, frame: &[u8]) -> bool
-    requires { ⌜ (kindIs kind .header (now frame) + securityLength held + 17 + kindIs kind .trailer (now frame) ≤ length (now frame)) × (length (now frame) ≤ 2048) ⌝ }
+    requires { ⌜ Parted held (kindIs kind) (now frame) × (length (now frame) ≤ 2048) ⌝ }
     ensures { λ r. ⌜ r ≡ macRight held (kindIs kind) (now (frame .entry)) ⌝ }
 {
     let mask = held.mask;
@@ -83,7 +83,7 @@ pub(crate) fn mac_right(kind: Kind, held: Held, frame: &[u8]) -> bool
 
 // The clear data to the front of the output.
 pub(crate) fn release_data(kind: Kind, held: Held, frame: &[u8], output: &mut [u8])
-    requires { ⌜ (kindIs kind .header (now frame) + securityLength held + 17 + kindIs kind .trailer (now frame) ≤ length (now frame)) × (length (now frame) ≤ 2048) × (clearLength held (kindIs kind) (now frame) ≤ length (now output)) ⌝ }
+    requires { ⌜ Parted held (kindIs kind) (now frame) × (length (now frame) ≤ 2048) × (clearLength held (kindIs kind) (now frame) ≤ length (now output)) ⌝ }
     ensures { λ _. ⌜ now (output .exit) ≡ written (clearData held (kindIs kind) (now (frame .entry))) (now (output .entry)) ⌝ }
 {
     let parts = parts_of(kind, held, frame);

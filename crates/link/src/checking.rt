@@ -23,15 +23,11 @@ use octets::two_at;
 ghost use mathlib.Core.Path.{_≡_};
 ghost use mathlib.Core.Bool.{true};
 ghost use Prim.Native.Nat.{ℕ, _<_};
-ghost use lib.ListN.{length};
 ghost use Rattle.frame.specs.Kinds.{kindIs, kindOf};
 ghost use Rattle.frame.specs.Rules.{obeys};
-ghost use Rattle.association.specs.Association.{associationOf, heldIn, one};
 ghost use Rattle.association.specs.Image.{countOf, validImage};
 ghost use Rattle.association.specs.Numbers.{agrees};
-ghost use Rattle.link.specs.Calls.{leaving, left, checked};
-ghost use Rattle.link.specs.Protection.{macRight};
-ghost use Rattle.link.specs.Replies.{seeing, checking};
+ghost use Rattle.link.specs.Calls.{leaving, checked, checkedUnder};
 
 // Checking under the entry that matches: what is left to test is 5, 6, 7 and 8. The MAC is judged before the window, and nothing is decrypted
 // before both are past.
@@ -44,7 +40,7 @@ fn check_under(
     output: &mut [u8],
 ) -> Outcome
     requires { ⌜ (validImage (now image) ≡ true) × (agrees (now image) (numbers .last) ≡ true) × (entry < countOf (now image)) × (obeys (kindIs kind) (now frame) true ≡ true) ⌝ }
-    ensures { λ r. ⌜ ((number : ℕ) → kindOf number ≡ kindIs kind → leaving r (now (image .exit)) (now (output .exit)) ≡ left (checking (seeing (one (associationOf (now (image .entry)) (numbers .last) entry))) (macRight (heldIn (associationOf (now (image .entry)) (numbers .last) entry)) (kindIs kind) (now (frame .entry))) number (now (frame .entry)) (length (now (output .entry)))) entry (now (image .entry)) (numbers .last) (now (output .entry))) ⌝ }
+    ensures { λ r. ⌜ ((number : ℕ) → kindOf number ≡ kindIs kind → leaving r (now (image .exit)) (now (output .exit)) ≡ checkedUnder (now (image .entry)) (numbers .last) entry number (now (frame .entry)) (now (output .entry))) ⌝ }
 {
     let under = held_at(image, entry);
     let last = numbers.of(entry);

@@ -20,7 +20,8 @@ pub(crate) fn cover(
     out: &mut [u8],
 ) -> usize
     requires { ⌜ (kindIs kind .header (now frame) + security ≤ length (now frame)) × (kindIs kind .header (now frame) + security ≤ length (now out)) ⌝ }
-    ensures { λ r. ⌜ (r ≡ kindIs kind .header (now (frame .entry)) + security) × (now (out .exit) ≡ written (masked mask (headerOf (kindIs kind) (now (frame .entry))) ++ securityOf (kindIs kind) security (now (frame .entry))) (now (out .entry))) ⌝ }
+    ensures { λ r. ⌜ r ≡ kindIs kind .header (now (frame .entry)) + security ⌝ }
+    ensures { λ _. ⌜ now (out .exit) ≡ written (masked mask (headerOf (kindIs kind) (now (frame .entry))) ++ securityOf (kindIs kind) security (now (frame .entry))) (now (out .entry)) ⌝ }
 {
     let header = kind.header_length(frame);
     let end = header + security;

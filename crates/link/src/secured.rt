@@ -14,9 +14,9 @@ ghost use mathlib.Core.List.{_++_};
 ghost use Prim.Native.Nat.{_+_, _≤_};
 ghost use lib.ListN.{length, take, drop};
 ghost use Rattle.frame.specs.Kinds.{kindIs};
-ghost use Rattle.frame.specs.Parts.{headerOf, securityOf, securedLength};
+ghost use Rattle.frame.specs.Parts.{headerOf, securedLength};
 ghost use Rattle.gcm.specs.Output.{written};
-ghost use Rattle.link.specs.Protection.{serviceIn, securityLength, coveredBefore, securedFrame};
+ghost use Rattle.link.specs.Protection.{securityLength, textUnder, macUnder, coveredIn, securedFrame};
 
 // A frame's header, its length rewritten for a frame of so many octets, and a security header.
 fn write_headers(kind: Kind, size: usize, security: &[u8], frame: &[u8], output: &mut [u8])
@@ -33,7 +33,8 @@ fn write_headers(kind: Kind, size: usize, security: &[u8], frame: &[u8], output:
 // output, where the length is rewritten already.
 fn write_text(kind: Kind, held: Held, security: &[u8], clear: &[u8], output: &mut [u8]) -> [u8; 16]
     requires { ⌜ (length (now security) ≡ securityLength held) × (length (now clear) ≤ 2048) × (kindIs kind .header (now output) + securityLength held + length (now clear) ≤ length (now output)) ⌝ }
-    ensures { λ r. ⌜ (r ≡ serviceIn held .mac (held .key) (drop 2 (now (security .entry))) (coveredBefore held (headerOf (kindIs kind) (now (output .entry))) (securityOf (kindIs kind) (securityLength held) (now (output .entry)))) (serviceIn held .goingOut (held .key) (drop 2 (now (security .entry))) (now (clear .entry)))) × (now (output .exit) ≡ take (kindIs kind .header (now (output .entry)) + securityLength held) (now (output .entry)) ++ written (serviceIn held .goingOut (held .key) (drop 2 (now (security .entry))) (now (clear .entry))) (drop (kindIs kind .header (now (output .entry)) + securityLength held) (now (output .entry)))) ⌝ }
+    ensures { λ r. ⌜ r ≡ macUnder held (now (security .entry)) (coveredIn held (kindIs kind) (now (output .entry))) (textUnder held (now (security .entry)) (now (clear .entry))) ⌝ }
+    ensures { λ _. ⌜ now (output .exit) ≡ take (kindIs kind .header (now (output .entry)) + securityLength held) (now (output .entry)) ++ written (textUnder held (now (security .entry)) (now (clear .entry))) (drop (kindIs kind .header (now (output .entry)) + securityLength held) (now (output .entry))) ⌝ }
 {
     let mask = held.mask;
     let mut before: [u8; 20] = [0; 20];

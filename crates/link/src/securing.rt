@@ -18,14 +18,11 @@ use frame::secured_length;
 ghost use mathlib.Core.Path.{_≡_};
 ghost use mathlib.Core.Bool.{true, false};
 ghost use Prim.Native.Nat.{ℕ, _<_};
-ghost use lib.ListN.{length};
 ghost use Rattle.frame.specs.Kinds.{kindIs, kindOf};
 ghost use Rattle.frame.specs.Rules.{obeys};
-ghost use Rattle.association.specs.Association.{associationOf, one};
 ghost use Rattle.association.specs.Image.{countOf, validImage};
 ghost use Rattle.association.specs.Numbers.{agrees};
-ghost use Rattle.link.specs.Calls.{leaving, left, secured};
-ghost use Rattle.link.specs.Replies.{seeing, securing};
+ghost use Rattle.link.specs.Calls.{leaving, secured, securedUnder};
 
 const GREATEST: u32 = 4294967295;
 
@@ -40,7 +37,7 @@ fn secure_under(
     output: &mut [u8],
 ) -> Outcome
     requires { ⌜ (validImage (now image) ≡ true) × (agrees (now image) (numbers .last) ≡ true) × (entry < countOf (now image)) × (obeys (kindIs kind) (now frame) false ≡ true) ⌝ }
-    ensures { λ r. ⌜ ((number : ℕ) → kindOf number ≡ kindIs kind → leaving r (now (image .exit)) (now (output .exit)) ≡ left (securing (seeing (one (associationOf (now (image .entry)) (numbers .last) entry))) number spi (now (frame .entry)) (length (now (output .entry)))) entry (now (image .entry)) (numbers .last) (now (output .entry))) ⌝ }
+    ensures { λ r. ⌜ ((number : ℕ) → kindOf number ≡ kindIs kind → leaving r (now (image .exit)) (now (output .exit)) ≡ securedUnder (now (image .entry)) (numbers .last) entry number spi (now (frame .entry)) (now (output .entry))) ⌝ }
 {
     let under = held_at(image, entry);
     let last = numbers.of(entry);

@@ -4,10 +4,10 @@ use crate::sequence::iv_in;
 use association::Held;
 ghost use mathlib.Core.Path.{_≡_};
 ghost use Prim.Native.Nat.{_≤_};
-ghost use lib.ListN.{length, drop};
+ghost use lib.ListN.{length};
 ghost use Rattle.octets.specs.Same.{same};
 ghost use Rattle.gcm.specs.Output.{written};
-ghost use Rattle.link.specs.Protection.{serviceIn, securityLength};
+ghost use Rattle.link.specs.Protection.{securityLength, textUnder, clearUnder, macUnder};
 
 // The data as it goes out, to the front of `text`, and its MAC.
 pub(crate) fn protect(
@@ -18,7 +18,8 @@ pub(crate) fn protect(
     text: &mut [u8],
 ) -> [u8; 16]
     requires { ⌜ (length (now security) ≡ securityLength held) × (length (now before) ≤ 20) × (length (now clear) ≤ 2048) × (length (now clear) ≤ length (now text)) ⌝ }
-    ensures { λ r. ⌜ (r ≡ serviceIn held .mac (held .key) (drop 2 (now (security .entry))) (now (before .entry)) (serviceIn held .goingOut (held .key) (drop 2 (now (security .entry))) (now (clear .entry)))) × (now (text .exit) ≡ written (serviceIn held .goingOut (held .key) (drop 2 (now (security .entry))) (now (clear .entry))) (now (text .entry))) ⌝ }
+    ensures { λ r. ⌜ r ≡ macUnder held (now (security .entry)) (now (before .entry)) (textUnder held (now (security .entry)) (now (clear .entry))) ⌝ }
+    ensures { λ _. ⌜ now (text .exit) ≡ written (textUnder held (now (security .entry)) (now (clear .entry))) (now (text .entry)) ⌝ }
 {
     let key = held.key;
     if held.service == 2 {
@@ -38,7 +39,7 @@ pub(crate) fn mac_is_right(
     mac: [u8; 16],
 ) -> bool
     requires { ⌜ (length (now security) ≡ securityLength held) × (length (now before) ≤ 20) × (length (now text) ≤ 2048) ⌝ }
-    ensures { λ r. ⌜ r ≡ same (serviceIn held .mac (held .key) (drop 2 (now (security .entry))) (now (before .entry)) (now (text .entry))) mac ⌝ }
+    ensures { λ r. ⌜ r ≡ same (macUnder held (now (security .entry)) (now (before .entry)) (now (text .entry))) mac ⌝ }
 {
     let key = held.key;
     if held.service == 2 {
@@ -55,7 +56,7 @@ pub(crate) fn mac_is_right(
 // The clear data to the front of `out`.
 pub(crate) fn release(held: Held, security: &[u8], text: &[u8], out: &mut [u8])
     requires { ⌜ (length (now security) ≡ securityLength held) × (length (now text) ≤ 2048) × (length (now text) ≤ length (now out)) ⌝ }
-    ensures { λ _. ⌜ now (out .exit) ≡ written (serviceIn held .comingIn (held .key) (drop 2 (now (security .entry))) (now (text .entry))) (now (out .entry)) ⌝ }
+    ensures { λ _. ⌜ now (out .exit) ≡ written (clearUnder held (now (security .entry)) (now (text .entry))) (now (out .entry)) ⌝ }
 {
     let key = held.key;
     if held.service == 2 {

@@ -1,8 +1,7 @@
 -- `block_at` is right because after i turns the first i octets of the block are those at the place.
 -- Assumes nothing.
 use mathlib.Core.Path.{refl}
-use Prim.Native.Nat.{ℕ, _+_, _-_}
-use native.Mathlib.Omega.{arith}
+use Prim.Native.Nat.{_+_, _-_}
 use Rattle.octets.specs.Lists.{octet, part}
 use Rattle.octets.proofs.Rules.{Filled, filled-none, filled-more, filled-all}
 use borrow.Author.Needs.{needs}
@@ -28,14 +27,5 @@ returns c = filled-all (c .loop-test .left) (c .before .loop .inv)
 pub block-at-spec : {M : Type 1} → statement M
 block-at-spec =
     tie.close
-    (tie.spec
-    Inv-loop
-    μ-loop
-    loop-holds
-    (λ c. search needs)
-    (λ c. search needs)
-    (λ c. search needs)
-    (λ c. search needs)
-    (λ c. search needs)
-    loop-again
-    returns)
+    (tie.spec Inv-loop μ-loop loop-holds (λ c. search needs) (λ c. search needs) (λ c. search needs) (λ c. search needs)
+    (λ c. search needs) loop-again returns)

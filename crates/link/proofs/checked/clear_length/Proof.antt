@@ -14,9 +14,4 @@ returns c =
     text-long (g .held) (kindIs (g .kind)) (g .frame .now) (p .result) (p .ensures .0) (omega arith)
 
 pub clear-length-spec : {M : Type 1} → statement M
-clear-length-spec =
-    tie.close
-    (tie.spec
-    (λ c κs. search needs)
-    (λ c. search needs)
-    returns)
+clear-length-spec = tie.close (tie.spec (λ c κs. search needs) (λ c. search needs) returns)

@@ -1,8 +1,6 @@
 -- `number_of` is right because it reads the number in the security header that is lent from the frame.
 -- Assumes nothing.
 use mathlib.Core.Path.{_∙_, ap}
-use mathlib.Core.List.{List}
-use Prim.Native.Nat.{ℕ}
 use Rattle.octets.specs.Numbers.{numberAt}
 use Rattle.frame.specs.Kinds.{kindIs}
 use Rattle.link.specs.Protection.{serviceIn, fieldIn, numberIn}
@@ -22,10 +20,4 @@ returns c =
 pub number-of-spec : {M : Type 1} → statement M
 number-of-spec =
     tie.close
-    (tie.spec
-    (λ c κs. search needs)
-    (λ c. search needs)
-    (λ c. search needs)
-    (λ c. search needs)
-    (λ c κs. search needs)
-    returns)
+    (tie.spec (λ c κs. search needs) (λ c. search needs) (λ c. search needs) (λ c. search needs) (λ c κs. search needs) returns)

@@ -1,6 +1,6 @@
 -- `release_data` is right because it releases the text of the frame under the field of its security header.
 -- Assumes nothing.
-use mathlib.Core.Path.{_∙_, ap, ap₂}
+use mathlib.Core.Path.{_∙_, ap₂}
 use mathlib.Core.List.{List}
 use Prim.Native.Nat.{ℕ}
 use native.Mathlib.Omega.{arith}
@@ -17,8 +17,11 @@ release-requires : tie.Need-release-requires
 release-requires c κs =
     let g = c .before .before .before .before .before .before .args in
     let p = c .before .before .before .parts-of in
-    let l = text-long (g .held) (kindIs (g .kind)) (g .frame .now) (p .result) (p .ensures .0) (omega arith) in
-    (rw (length-take, length-drop) (omega arith), rw (length-take, length-drop) (omega arith), rw (length-take, length-drop) (omega (arith, l)))
+    let l = text-long (g .held) (kindIs (g .kind)) (g .frame .now) (p .result) (p .ensures .0) (omega arith) in (
+      rw (length-take, length-drop) (omega arith),
+      rw (length-take, length-drop) (omega arith),
+      rw (length-take, length-drop) (omega (arith, l)),
+    )
 
 returns : tie.Need-returns
 unfolding clearData fieldIn
@@ -33,14 +36,5 @@ returns c =
 pub release-data-spec : {M : Type 1} → statement M
 release-data-spec =
     tie.close
-    (tie.spec
-    (λ c κs. search needs)
-    (λ c. search needs)
-    (λ c. search needs)
-    (λ c. search needs)
-    (λ c. search needs)
-    (λ c. search needs)
-    (λ c. search needs)
-    release-requires
-    (λ c. search needs)
-    returns)
+    (tie.spec (λ c κs. search needs) (λ c. search needs) (λ c. search needs) (λ c. search needs) (λ c. search needs) (λ c. search needs)
+    (λ c. search needs) release-requires (λ c. search needs) returns)

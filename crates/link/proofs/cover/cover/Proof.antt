@@ -11,26 +11,18 @@ use Rattle.link.proofs.cover.cover.Tie as tie
 
 returns : tie.Need-returns
 returns c =
-    let g = c .before .before .before .before .before .before .before .before .before .before .before .before .before .args in
-    let h = c .before .before .before .before .before .before .before .before .before .before .header-length in
-    let first = c .before .before .before .before .before .before .before .mask-header in (
+    let first = c .before .before .before .before .before .before .before in
+    let measured = first .before .before .before in
+    let g = measured .before .before .before .args in
+    let h = measured .header-length in (
       ap (λ (x : ℕ). x + g .security) (h .ensures),
       c .before .before .put-behind .ensures
-          ∙ covered (kindIs (g .kind)) (g .t2) (g .frame .now) (g .out .now) (h .result) (g .security) (h .ensures) (omega (arith, h .ensures))
-          (omega (arith, h .ensures)) (first .last .1 .1 .1 .0) (first .ensures .1),
+          ∙ covered (kindIs (g .kind)) (g .t2) (g .frame .now) (g .out .now) (h .result) (g .security) (h .ensures)
+          (omega (arith, h .ensures)) (omega (arith, h .ensures)) (first .mask-header .last .1 .1 .1 .0) (first .mask-header .ensures .1),
     )
 
 pub cover-spec : {M : Type 1} → statement M
 cover-spec =
     tie.close
-    (tie.spec
-    (λ c κs. search needs)
-    (λ c. search needs)
-    (λ c. search needs)
-    (λ c κs. search needs)
-    (λ c. search needs)
-    (λ c. search needs)
-    (λ c. search needs)
-    (λ c κs. search needs)
-    (λ c. search needs)
-    returns)
+    (tie.spec (λ c κs. search needs) (λ c. search needs) (λ c. search needs) (λ c κs. search needs) (λ c. search needs)
+    (λ c. search needs) (λ c. search needs) (λ c κs. search needs) (λ c. search needs) returns)

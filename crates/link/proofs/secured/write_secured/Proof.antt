@@ -1,43 +1,129 @@
 -- `write_secured` is right because each piece goes behind those before it: the headers, the data as it goes out, the MAC and the trailer.
 -- Assumes nothing.
-use mathlib.Core.Path.{_≡_, refl, sym, ap, ap₂, _∙_}
-use mathlib.Core.List.{List, _++_}
+use mathlib.Core.Path.{_≡_, sym, ap, ap₂, _∙_}
+use mathlib.Core.List.{List}
 use Prim.Native.Nat.{ℕ, _+_, _-_, _≤_}
 use native.Mathlib.Omega.{arith}
 use lib.ListN.{length, take, drop, length-take, length-drop}
-use lib.Seq.{slice, take-all, length-take-le}
+use lib.Seq.{slice, take-all, drop-at, length-take-le}
 use Rattle.octets.specs.Numbers.{bytes}
+use Rattle.octets.proofs.Numbers.{length-bytes}
 use Rattle.frame.specs.Kinds.{kindIs}
 use Rattle.frame.specs.Parts as parts
-use Rattle.frame.specs.Parts.{headerOf, trailerOf, clearData, securityOf}
+use Rattle.frame.specs.Parts.{trailerOf, clearData, trailerStart}
+use Rattle.frame.specs.declared.parts.ClearParts.{ClearParts}
 use Rattle.frame.proofs.Kept.{lawful-kind}
 use Rattle.gcm.specs.Output.{written}
-use Rattle.frame.specs.declared.parts.ClearParts.{ClearParts}
-use Rattle.link.specs.Protection.{serviceIn, securityLength, coveredBefore, securedLength, fieldFor}
+use Rattle.link.specs.Protection.{serviceIn, securityLength, textUnder, securedLength, fieldFor}
 use Rattle.link.proofs.Assembling as assembling
+use Rattle.link.proofs.Assembling.{Securing}
+use Rattle.link.proofs.Wire.{length-security, length-mac}
 use Rattle.link.proofs.Writing.{slice-as-part}
 use borrow.Author.Needs.{needs}
 use Rattle.link.proofs.secured.write_secured.Statement.{statement}
 use Rattle.link.proofs.secured.write_secured.Tie as tie
 
--- the places of the parts and the room there is
-measured : (c : tie.After-clear-parts) → let g = c .before .before .before .before .before .args in let k = kindIs (g .kind) in
-    (c .clear-parts .result .header ≡ k .header (g .frame .now))
-    × (c .clear-parts .result .content ≡ length (g .frame .now) - k .trailer (g .frame .now))
-    × (c .before .before .security-length .result ≡ securityLength (g .held))
-    × (k .header (g .frame .now) + k .trailer (g .frame .now) ≤ length (g .frame .now))
-    × (length (g .frame .now) ≤ 2048)
-    × (securedLength (g .held) (g .frame .now) ≤ length (g .output .now))
-    × (c .before .before .security-length .result ≤ 14)
-measured c =
-    let p = c .clear-parts .ensures in
-    let s = c .before .before .security-length .ensures in
-    (ap (λ (x : ClearParts). x .header) p, ap (λ (x : ClearParts). x .content) p, s .0, search needs, search needs, search needs, search needs)
+-- ---- the places that are looked back to, and what is written there
 
-security-is : (c : tie.After-clear-parts) → let g = c .before .before .before .before .before .args in
-    take (c .before .before .security-length .result) (c .before .security-header .result) ≡ bytes 2 (g .spi) ++ fieldFor (g .held) (g .n)
+abbrev entry : tie.After-clear-parts → tie.Start
+entry c = c .before .before .before .before .before
+
+abbrev parts-at : tie.After-write-headers → tie.After-clear-parts
+parts-at c = c .before .before .before .before
+
+abbrev headers-at : tie.After-write-text → tie.After-write-headers
+headers-at c = c .before .before .before .before .before .before
+
+abbrev text-at : tie.After-put-behind → tie.After-write-text
+text-at c = c .before .before .before .before .before
+
+abbrev headers-in : tie.After-write-headers → List ℕ
+headers-in c = c .write-headers .last .1 .1 .1 .1 .0
+
+abbrev text-in : tie.After-write-text → List ℕ
+text-in c = c .write-text .last .1 .1 .1 .1 .0
+
+abbrev mac-in : tie.After-put-behind → List ℕ
+mac-in c = c .put-behind .last .1 .1 .0
+
+-- ---- the places of the parts, and the room there is
+
+record Measured (c : tie.After-clear-parts) : Type 0 where
+  header : c .clear-parts .result .header ≡ kindIs (entry c .args .kind) .header (entry c .args .frame .now)
+  content : c .clear-parts .result .content ≡ trailerStart (kindIs (entry c .args .kind)) (entry c .args .frame .now)
+  security : c .before .before .security-length .result ≡ securityLength (entry c .args .held)
+  short : c .before .before .security-length .result ≤ 14
+  parted : let k = kindIs (entry c .args .kind) in let f = entry c .args .frame .now in k .header f + k .trailer f ≤ length f
+  small : length (entry c .args .frame .now) ≤ 2048
+  roomy : securedLength (entry c .args .held) (entry c .args .frame .now) ≤ length (entry c .args .output .now)
+
+measured : (c : tie.After-clear-parts) → Measured c
+measured c =
+    record {
+      header = ap (λ (x : ClearParts). x .header) (c .clear-parts .ensures);
+      content = ap (λ (x : ClearParts). x .content) (c .clear-parts .ensures);
+      security = c .before .before .security-length .ensures .0;
+      short = search needs;
+      parted = search needs;
+      small = search needs;
+      roomy = search needs;
+    }
+
+abbrev securing : tie.After-clear-parts → Securing
+securing c =
+    let g = entry c .args in
+    record {
+      held = g .held;
+      kind = kindIs (g .kind);
+      law = lawful-kind (g .kind);
+      spi = g .spi;
+      number = g .n;
+      frame = g .frame .now;
+      out = g .output .now;
+      parted = measured c .parted;
+      roomy = measured c .roomy;
+    }
+
+-- ---- the security header, its field, the clear data and the trailer, as they are lent
+
+abbrev security-lent : tie.After-clear-parts → List ℕ
+security-lent c = take (c .before .before .security-length .result) (c .before .security-header .result)
+
+security-is : (c : tie.After-clear-parts) → security-lent c ≡ assembling.security (securing c)
 security-is c =
-    ap (λ (x : ℕ). take x (c .before .security-header .result)) (c .before .before .security-length .ensures .0) ∙ c .before .security-header .ensures
+    ap (λ (x : ℕ). take x (c .before .security-header .result)) (c .before .before .security-length .ensures .0)
+    ∙ c .before .security-header .ensures
+
+field-is : (c : tie.After-clear-parts) → drop 2 (security-lent c) ≡ fieldFor (entry c .args .held) (entry c .args .n)
+field-is c =
+    let g = entry c .args in
+    ap (drop 2) (security-is c) ∙ drop-at (bytes 2 (g .spi)) (fieldFor (g .held) (g .n)) 2 (length-bytes 2 (g .spi))
+
+abbrev clear-lent : tie.After-clear-parts → List ℕ
+clear-lent c = let p = c .clear-parts .result in take (p .content - p .header) (drop (p .header) (entry c .args .frame .now))
+
+clear-is : (c : tie.After-clear-parts) → clear-lent c ≡ clearData (kindIs (entry c .args .kind)) (entry c .args .frame .now)
+unfolding clearData
+clear-is c =
+    let p = c .clear-parts in
+    slice-as-part (p .result .header) (p .result .content) (entry c .args .frame .now)
+    ∙ ap (λ (x : ClearParts). slice (x .header) (x .content) (entry c .args .frame .now)) (p .ensures)
+
+abbrev trailer-lent : tie.After-clear-parts → List ℕ
+trailer-lent c =
+    let f = entry c .args .frame .now in
+    let content = c .clear-parts .result .content in
+    take (length f - content) (drop content f)
+
+trailer-is : (c : tie.After-clear-parts) → trailer-lent c ≡ trailerOf (kindIs (entry c .args .kind)) (entry c .args .frame .now)
+unfolding trailerOf
+trailer-is c =
+    let f = entry c .args .frame .now in
+    let content = c .clear-parts .result .content in
+    take-all (length f - content) (drop content f) (simp length-drop (omega arith))
+    ∙ ap (λ (x : ClearParts). drop (x .content) f) (c .clear-parts .ensures)
+
+-- ---- the headers
 
 slice-aggregate-write-headers : tie.Need-slice-aggregate-write-headers
 slice-aggregate-write-headers c = sym (length-take-le _ _ (omega (arith, measured (c .before .before))))
@@ -45,164 +131,114 @@ slice-aggregate-write-headers c = sym (length-take-le _ _ (omega (arith, measure
 write-headers-requires : tie.Need-write-headers-requires
 write-headers-requires c κs = let m = measured (c .before .before .before) in (omega (arith, m), rw length-take (omega (arith, m)))
 
+headed : (c : tie.After-write-headers) → let s = securing (parts-at c) in headers-in c ≡ written (assembling.headers s) (s .out)
+headed c =
+    let s = securing (parts-at c) in
+    let made = c .before .before .before .secured-length in
+    let size = made .ensures ∙ ap (λ (x : ℕ). parts.securedLength x (s .frame)) (measured (parts-at c) .security) in
+    assembling.with-headers s (made .result) (security-lent (parts-at c)) (headers-in c) size (security-is (parts-at c))
+    (c .write-headers .ensures)
+
+-- ---- the data and its MAC
+
 slice-aggregate-write-text : tie.Need-slice-aggregate-write-text
-slice-aggregate-write-text c = sym (length-take-le _ _ (omega (arith, measured (c .before .before .before .before .before .before .before))))
+slice-aggregate-write-text c = sym (length-take-le _ _ (omega (arith, measured (parts-at (c .before .before .before)))))
 
 sub-write-text : tie.Need-sub-write-text
-sub-write-text c = omega (arith, measured (c .before .before .before .before .before .before .before))
+sub-write-text c = omega (arith, measured (parts-at (c .before .before .before)))
 
 part-write-text-start : tie.Need-part-write-text-start
-part-write-text-start c = omega (arith, measured (c .before .before .before .before .before .before .before))
+part-write-text-start c = omega (arith, measured (parts-at (c .before .before .before)))
 
 part-write-text-end : tie.Need-part-write-text-end
-part-write-text-end c = omega (arith, measured (c .before .before .before .before .before .before .before))
-
--- the clear data and the trailer, as they are lent from the frame
-clear-is : (c : tie.After-clear-parts) → let g = c .before .before .before .before .before .args in let p = c .clear-parts .result in
-    take (p .content - p .header) (drop (p .header) (g .frame .now)) ≡ clearData (kindIs (g .kind)) (g .frame .now)
-unfolding clearData
-clear-is c =
-    let p = c .clear-parts in
-    slice-as-part (p .result .header) (p .result .content) (c .before .before .before .before .before .args .frame .now) ∙ ap (λ (x : ClearParts). slice (x .header) (x .content) (c .before .before .before .before .before .args .frame .now)) (p .ensures)
-
-trailer-is : (c : tie.After-clear-parts) → let g = c .before .before .before .before .before .args in let p = c .clear-parts .result in
-    take (length (g .frame .now) - p .content) (drop (p .content) (g .frame .now)) ≡ trailerOf (kindIs (g .kind)) (g .frame .now)
-unfolding trailerOf
-trailer-is c =
-    let f = c .before .before .before .before .before .args .frame .now in
-    let p = c .clear-parts in
-    take-all (length f - p .result .content) (drop (p .result .content) f) (simp length-drop (omega arith)) ∙ ap (λ (x : ClearParts). drop (x .content) f) (p .ensures)
-
--- the output after each piece
-headed : (c : tie.After-write-headers) → let g = c .before .before .before .before .before .before .before .before .before .args in let k = kindIs (g .kind) in let m = measured (c .before .before .before .before) in
-    c .write-headers .last .1 .1 .1 .1 .0 ≡ written (assembling.fronted (g .held) k (lawful-kind (g .kind)) (g .spi) (g .n) (g .frame .now) (g .output .now) (m .3) (m .5)) (g .output .now)
-headed c =
-    let g = c .before .before .before .before .before .before .before .before .before .args in
-    let k = kindIs (g .kind) in
-    let size : c .before .before .before .secured-length .result ≡ securedLength (g .held) (g .frame .now) =
-    c .before .before .before .secured-length .ensures ∙ ap (λ (x : ℕ). parts.securedLength x (g .frame .now)) (measured (c .before .before .before .before) .2)
-    in
-    c .write-headers .ensures
-    ∙ ap₂ (λ (x : ℕ) (s : List ℕ). written (k .withLength x (headerOf k (g .frame .now)) ++ s) (g .output .now)) size (security-is (c .before .before .before .before))
+part-write-text-end c = omega (arith, measured (parts-at (c .before .before .before)))
 
 write-text-requires : tie.Need-write-text-requires
 write-text-requires c κs =
-    let g = c .before .before .before .before .before .before .before .before .before .before .before .before .before .before .args in
-    let k = kindIs (g .kind) in
-    let m = measured (c .before .before .before .before .before .before .before .before .before) in
-    let first = c .before .before .before .before .before .write-headers .last .1 .1 .1 .1 .0 in
-    let l = assembling.long-headers (g .held) k (lawful-kind (g .kind)) (g .spi) (g .n) (g .frame .now) (g .output .now) (m .3) (m .5) first (headed (c .before .before .before .before .before)) in (
-      ap length (security-is (c .before .before .before .before .before .before .before .before .before)) ∙ assembling.length-security (g .held) k (lawful-kind (g .kind)) (g .spi) (g .n) (g .frame .now) (g .output .now) (m .3) (m .5),
+    let h = c .before .before .before .before .before in
+    let s = securing (parts-at h) in
+    let m = measured (parts-at h) in
+    let l = assembling.long-headers s (headers-in h) (headed h) in (
+      ap length (security-is (parts-at h)) ∙ length-security (s .held) (s .spi) (s .number),
       rw (length-take, length-drop) (omega (arith, m)),
-      rw (assembling.header-place (g .held) k (lawful-kind (g .kind)) (g .spi) (g .n) (g .frame .now) (g .output .now) (m .3) (m .5) first (headed (c .before .before .before .before .before)), length-take, length-drop) (omega (arith, m, l)),
+      rw (assembling.header-place s (headers-in h) (headed h), length-take, length-drop) (omega (arith, m, l)),
     )
 
-texted : (c : tie.After-write-text) → let g = c .before .before .before .before .before .before .before .before .before .before .before .before .before .before .before .args in let k = kindIs (g .kind) in let m = measured (c .before .before .before .before .before .before .before .before .before .before) in
-    (c .write-text .last .1 .1 .1 .1 .0 ≡ written (assembling.fronted (g .held) k (lawful-kind (g .kind)) (g .spi) (g .n) (g .frame .now) (g .output .now) (m .3) (m .5) ++ assembling.text (g .held) k (lawful-kind (g .kind)) (g .spi) (g .n) (g .frame .now) (g .output .now) (m .3) (m .5)) (g .output .now))
-    × (c .write-text .result ≡ assembling.mac (g .held) k (lawful-kind (g .kind)) (g .spi) (g .n) (g .frame .now) (g .output .now) (m .3) (m .5))
+abbrev text-lent : tie.After-clear-parts → List ℕ
+text-lent c = textUnder (entry c .args .held) (security-lent c) (clear-lent c)
+
+text-is : (c : tie.After-clear-parts) → text-lent c ≡ assembling.text (securing c)
+text-is c = let g = entry c .args in ap₂ (serviceIn (g .held) .goingOut (g .held .key)) (field-is c) (clear-is c)
+
+texted : (c : tie.After-write-text) → let s = securing (parts-at (headers-at c)) in text-in c ≡ written (assembling.to-text s) (s .out)
 texted c =
-    let g = c .before .before .before .before .before .before .before .before .before .before .before .before .before .before .before .args in
-    let k = kindIs (g .kind) in
-    let m = measured (c .before .before .before .before .before .before .before .before .before .before) in
-    let first = c .before .before .before .before .before .before .write-headers .last .1 .1 .1 .1 .0 in
-    let f = headed (c .before .before .before .before .before .before) in
-    let going : List ℕ → List ℕ → List ℕ = λ s d. serviceIn (g .held) .goingOut (g .held .key) (drop 2 s) d in
-    let t = ap₂ going (security-is (c .before .before .before .before .before .before .before .before .before .before)) (clear-is (c .before .before .before .before .before .before .before .before .before .before)) in
-    let a = k .header first + securityLength (g .held) in
-    let e : a ≡ k .header (g .frame .now) + securityLength (g .held) =
-    ap (λ (x : ℕ). x + securityLength (g .held)) (assembling.header-place (g .held) k (lawful-kind (g .kind)) (g .spi) (g .n) (g .frame .now) (g .output .now) (m .3) (m .5) first f)
-    in
-    let b = ap₂ (coveredBefore (g .held)) (assembling.header-read (g .held) k (lawful-kind (g .kind)) (g .spi) (g .n) (g .frame .now) (g .output .now) (m .3) (m .5) first f) (assembling.security-read (g .held) k (lawful-kind (g .kind)) (g .spi) (g .n) (g .frame .now) (g .output .now) (m .3) (m .5) first f) in (
-      c .write-text .ensures .1 ∙ ap (λ (x : List ℕ). take a first ++ written x (drop a first)) t ∙ assembling.with-text (g .held) k (lawful-kind (g .kind)) (g .spi) (g .n) (g .frame .now) (g .output .now) (m .3) (m .5) first f a e,
-      c .write-text .ensures .0
-          ∙ ap₂ (λ (s x : List ℕ). serviceIn (g .held) .mac (g .held .key) (drop 2 s) (coveredBefore (g .held) (headerOf k first) (securityOf k (securityLength (g .held)) first)) x) (security-is (c .before .before .before .before .before .before .before .before .before .before)) t
-          ∙ ap (λ (x : List ℕ). serviceIn (g .held) .mac (g .held .key) (drop 2 (assembling.security (g .held) k (lawful-kind (g .kind)) (g .spi) (g .n) (g .frame .now) (g .output .now) (m .3) (m .5))) x (assembling.text (g .held) k (lawful-kind (g .kind)) (g .spi) (g .n) (g .frame .now) (g .output .now) (m .3) (m .5))) b,
-    )
+    let h = headers-at c in
+    assembling.with-text (securing (parts-at h)) (headers-in h) (headed h) (text-lent (parts-at h)) (text-in c) (text-is (parts-at h))
+    (c .write-text .ensures .1)
+
+signed : (c : tie.After-write-text) → c .write-text .result ≡ assembling.mac (securing (parts-at (headers-at c)))
+signed c =
+    let h = headers-at c in
+    let p = parts-at h in
+    assembling.mac-made (securing p) (headers-in h) (headed h) (drop 2 (security-lent p)) (text-lent p) (c .write-text .result) (field-is p)
+    (text-is p) (c .write-text .ensures .0)
 
 add-put-behind : tie.Need-add-put-behind
-add-put-behind c = record { fits = omega (arith, measured (c .before .before .before .before .before .before .before .before .before .before .before .before .before)) }
+add-put-behind c = record { fits = omega (arith, measured (parts-at (headers-at (c .before .before .before)))) }
 
 put-behind-requires : tie.Need-put-behind-requires
 put-behind-requires c κs =
-    let g = c .before .before .before .before .before .before .before .before .before .before .before .before .before .before .before .before .before .before .before .args in
-    let k = kindIs (g .kind) in
-    let m = measured (c .before .before .before .before .before .before .before .before .before .before .before .before .before .before) in
-    let t = texted (c .before .before .before .before) in
-    let l = assembling.long-text (g .held) k (lawful-kind (g .kind)) (g .spi) (g .n) (g .frame .now) (g .output .now) (m .3) (m .5) (c .before .before .before .before .write-text .last .1 .1 .1 .1 .0) (t .0) in
-    let n = ap length (t .1) ∙ assembling.length-mac (g .held) k (lawful-kind (g .kind)) (g .spi) (g .n) (g .frame .now) (g .output .now) (m .3) (m .5) in
+    let t = c .before .before .before .before in
+    let s = securing (parts-at (headers-at t)) in
+    let m = measured (parts-at (headers-at t)) in
+    let l = assembling.long-text s (text-in t) (texted t) in
+    let n = ap length (signed t) ∙ length-mac (s .held) (s .kind) (s .spi) (s .number) (s .frame) in
     omega (arith, m, l, n)
 
-signed : (c : tie.After-put-behind) → let g = c .before .before .before .before .before .before .before .before .before .before .before .before .before .before .before .before .before .before .before .before .args in let k = kindIs (g .kind) in let m = measured (c .before .before .before .before .before .before .before .before .before .before .before .before .before .before .before) in
-    c .put-behind .last .1 .1 .0
-    ≡ written ((assembling.fronted (g .held) k (lawful-kind (g .kind)) (g .spi) (g .n) (g .frame .now) (g .output .now) (m .3) (m .5) ++ assembling.text (g .held) k (lawful-kind (g .kind)) (g .spi) (g .n) (g .frame .now) (g .output .now) (m .3) (m .5)) ++ assembling.mac (g .held) k (lawful-kind (g .kind)) (g .spi) (g .n) (g .frame .now) (g .output .now) (m .3) (m .5)) (g .output .now)
-signed c =
-    let g = c .before .before .before .before .before .before .before .before .before .before .before .before .before .before .before .before .before .before .before .before .args in
-    let k = kindIs (g .kind) in
-    let m = measured (c .before .before .before .before .before .before .before .before .before .before .before .before .before .before .before) in
-    let second = c .before .before .before .before .before .write-text .last .1 .1 .1 .1 .0 in
-    let t = texted (c .before .before .before .before .before) in
-    let a = c .before .before .before .before .before .before .before .before .before .before .before .before .before .before .before .clear-parts .result .content + c .before .before .before .before .before .before .before .before .before .before .before .before .before .before .before .before .before .security-length .result in
-    c .put-behind .ensures
-    ∙ ap (λ (x : List ℕ). take a second ++ written x (drop a second)) (t .1)
-    ∙ assembling.with-mac (g .held) k (lawful-kind (g .kind)) (g .spi) (g .n) (g .frame .now) (g .output .now) (m .3) (m .5) second (t .0) a (ap₂ (λ (x y : ℕ). x + y) (m .1) (m .2))
+maced : (c : tie.After-put-behind) → let s = securing (parts-at (headers-at (text-at c))) in
+    mac-in c ≡ written (assembling.to-mac s) (s .out)
+maced c =
+    let t = text-at c in
+    let p = parts-at (headers-at t) in
+    let a = p .clear-parts .result .content + p .before .before .security-length .result in
+    assembling.with-mac (securing p) (text-in t) (texted t) (t .write-text .result) (mac-in c) (signed t) a
+    (ap₂ _+_ (measured p .content) (measured p .security)) (c .put-behind .ensures)
+
+-- ---- the trailer
 
 sub-put-behind : tie.Need-sub-put-behind
-sub-put-behind c = omega (arith, measured (c .before .before .before .before .before .before .before .before .before .before .before .before .before .before .before .before .before))
+sub-put-behind c = omega (arith, measured (parts-at (headers-at (text-at (c .before .before)))))
 
 part-put-behind-start : tie.Need-part-put-behind-start
-part-put-behind-start c = omega (arith, measured (c .before .before .before .before .before .before .before .before .before .before .before .before .before .before .before .before .before))
+part-put-behind-start c = omega (arith, measured (parts-at (headers-at (text-at (c .before .before)))))
 
 add-put-behind-2 : tie.Need-add-put-behind-2
-add-put-behind-2 c = record { fits = omega (arith, measured (c .before .before .before .before .before .before .before .before .before .before .before .before .before .before .before .before .before .before)) }
+add-put-behind-2 c = record { fits = omega (arith, measured (parts-at (headers-at (text-at (c .before .before .before))))) }
 
 add-put-behind-3 : tie.Need-add-put-behind-3
-add-put-behind-3 c = record { fits = omega (arith, measured (c .before .before .before .before .before .before .before .before .before .before .before .before .before .before .before .before .before .before)) }
+add-put-behind-3 c = record { fits = omega (arith, measured (parts-at (headers-at (text-at (c .before .before .before))))) }
 
 put-behind-requires-2 : tie.Need-put-behind-requires-2
 put-behind-requires-2 c κs =
-    let g = c .before .before .before .before .before .before .before .before .before .before .before .before .before .before .before .before .before .before .before .before .before .before .before .before .args in
-    let k = kindIs (g .kind) in
-    let m = measured (c .before .before .before .before .before .before .before .before .before .before .before .before .before .before .before .before .before .before .before) in
-    let l = assembling.long-mac (g .held) k (lawful-kind (g .kind)) (g .spi) (g .n) (g .frame .now) (g .output .now) (m .3) (m .5) (c .before .before .before .before .put-behind .last .1 .1 .0) (signed (c .before .before .before .before)) in
+    let b = c .before .before .before .before in
+    let p = parts-at (headers-at (text-at b)) in
+    let m = measured p in
+    let l = assembling.long-mac (securing p) (mac-in b) (maced b) in
     rw (length-take, length-drop) (omega (arith, m, l))
 
 returns : tie.Need-returns
 returns c =
-    let g = c .before .before .before .before .before .before .before .before .before .before .before .before .before .before .before .before .before .before .before .before .before .before .before .before .before .before .before .args in
-    let k = kindIs (g .kind) in
-    let m = measured (c .before .before .before .before .before .before .before .before .before .before .before .before .before .before .before .before .before .before .before .before .before .before) in
-    let third = c .before .before .before .before .before .before .before .put-behind .last .1 .1 .0 in
-    let a = c .before .before .before .before .before .before .before .before .before .before .before .before .before .before .before .before .before .before .before .before .before .before .clear-parts .result .content + c .before .before .before .before .before .before .before .before .before .before .before .before .before .before .before .before .before .before .before .before .before .before .before .before .security-length .result + 16 in
-    c .before .before .put-behind2 .ensures
-    ∙ ap (λ (x : List ℕ). take a third ++ written x (drop a third)) (trailer-is (c .before .before .before .before .before .before .before .before .before .before .before .before .before .before .before .before .before .before .before .before .before .before))
-    ∙ assembling.with-trailer (g .held) k (lawful-kind (g .kind)) (g .spi) (g .n) (g .frame .now) (g .output .now) (m .3) (m .5) third (signed (c .before .before .before .before .before .before .before)) a (ap₂ (λ (x y : ℕ). x + y + 16) (m .1) (m .2))
+    let b = c .before .before .before .before .before .before .before in
+    let p = parts-at (headers-at (text-at b)) in
+    let a = p .clear-parts .result .content + p .before .before .security-length .result + 16 in
+    let last = c .before .before .put-behind2 in
+    assembling.with-trailer (securing p) (mac-in b) (maced b) (trailer-lent p) (last .last .1 .1 .0) (trailer-is p) a
+    (ap₂ (λ (x y : ℕ). x + y + 16) (measured p .content) (measured p .security)) (last .ensures)
 
 pub write-secured-spec : {M : Type 1} → statement M
 write-secured-spec =
     tie.close
-    (tie.spec
-    (λ c κs. search needs)
-    (λ c κs. search needs)
-    (λ c κs. search needs)
-    (λ c. search needs)
-    (λ c κs. search needs)
-    (λ c. search needs)
-    slice-aggregate-write-headers
-    write-headers-requires
-    (λ c. search needs)
-    slice-aggregate-write-text
-    sub-write-text
-    part-write-text-start
-    part-write-text-end
-    write-text-requires
-    (λ c. search needs)
-    add-put-behind
-    put-behind-requires
-    sub-put-behind
-    part-put-behind-start
-    (λ c. search needs)
-    add-put-behind-2
-    add-put-behind-3
-    put-behind-requires-2
-    (λ c. search needs)
-    returns)
+    (tie.spec (λ c κs. search needs) (λ c κs. search needs) (λ c κs. search needs) (λ c. search needs) (λ c κs. search needs)
+    (λ c. search needs) slice-aggregate-write-headers write-headers-requires (λ c. search needs) slice-aggregate-write-text sub-write-text
+    part-write-text-start part-write-text-end write-text-requires (λ c. search needs) add-put-behind put-behind-requires sub-put-behind
+    part-put-behind-start (λ c. search needs) add-put-behind-2 add-put-behind-3 put-behind-requires-2 (λ c. search needs) returns)

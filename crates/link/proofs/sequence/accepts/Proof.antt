@@ -1,6 +1,5 @@
 -- `accepts` is right because a number with a multiple of 2^32 in it is above the greatest, and one without is its lower part.
 -- Assumes nothing.
-use lib.Dec.{lit<}
 use Rattle.link.proofs.Window.{accepts-parts}
 use borrow.Author.Needs.{needs}
 use Rattle.link.proofs.sequence.accepts.Statement.{statement}

@@ -1,7 +1,7 @@
 -- `iv_in` is right because after i turns the first i octets of the array are those behind the SPI.
 -- Assumes nothing.
 use mathlib.Core.Path.{refl}
-use Prim.Native.Nat.{ℕ, _+_, _-_}
+use Prim.Native.Nat.{_+_, _-_}
 use Rattle.octets.specs.Lists.{octet, part}
 use Rattle.octets.proofs.Rules.{Filled, filled-none, filled-more, filled-all}
 use borrow.Author.Needs.{needs}
@@ -27,5 +27,5 @@ returns c = filled-all (c .loop-test .left) (c .before .loop .inv)
 pub iv-in-spec : {M : Type 1} → statement M
 iv-in-spec =
     tie.close
-    (tie.spec Inv-loop μ-loop loop-holds (λ c. search needs) (λ c κs. search needs) (λ c. search needs) (λ c. search needs) (λ c. search needs)
-    loop-again returns)
+    (tie.spec Inv-loop μ-loop loop-holds (λ c. search needs) (λ c κs. search needs) (λ c. search needs) (λ c. search needs)
+    (λ c. search needs) loop-again returns)

@@ -1,14 +1,10 @@
 -- `mac_is_right` is right because GCM judges a frame of service 2 with its field as IV, and CMAC one of service 1.
 -- Assumes nothing.
 use mathlib.Core.Path.{_≡_, sym, ap, _∙_}
-use mathlib.Core.List.{List}
-use Prim.Native.Nat.{ℕ}
-use lib.ListN.{drop}
 use Rattle.octets.specs.Same.{same}
-use Rattle.gcm.specs.Calls.{checked}
-use Rattle.link.specs.Protection.{serviceIn}
+use Rattle.link.specs.Protection.{macUnder}
 use Rattle.link.proofs.Chosen.{signs}
-use Rattle.link.proofs.Ciphers.{rightly, sealing, judging, releasing}
+use Rattle.link.proofs.Ciphers.{rightly, judging}
 use borrow.Author.Needs.{needs}
 use Rattle.link.proofs.services.mac_is_right.Statement.{statement}
 use Rattle.link.proofs.services.mac_is_right.Tie as tie
@@ -16,12 +12,14 @@ use Rattle.link.proofs.services.mac_is_right.Tie as tie
 -- the verdict of GCM says whether the MAC is right
 judged : (c : tie.After-check) → let g = c .before .before .before .before .before .before .before .before .args in
     rightly (c .check .result)
-    ≡ same (serviceIn (g .held) .mac (g .held .key) (drop 2 (g .security .now)) (g .before .now) (g .text .now)) (g .mac)
+    ≡ same (macUnder (g .held) (g .security .now) (g .before .now) (g .text .now)) (g .mac)
 judged c =
     let g = c .before .before .before .before .before .before .before .before .args in
-    ap rightly (c .check .ensures ∙ ap (λ (iv : List ℕ). checked (g .held .key) iv (g .before .now) (g .text .now) (g .mac)) (c .before .iv-in .ensures))
+    let read = c .before .iv-in in
+    ap rightly (c .check .ensures)
     ∙ sym
-    (judging (g .held) (g .security .now) (c .before .before .if1 .taken) (search needs) (g .before .now) (search needs) (g .text .now) (g .mac) (search needs))
+    (judging (g .held) (g .security .now) (c .before .before .if1 .taken) (search needs) (read .result) (read .ensures) (g .before .now)
+    (search needs) (g .text .now) (g .mac) (search needs))
 
 returns : tie.Need-returns
 returns c = ap rightly (sym (c .enum-told .given .1)) ∙ judged (c .before .before)
@@ -35,19 +33,10 @@ returns-3 c = ap rightly (sym (c .enum-told3 .given .1)) ∙ judged (c .before .
 returns-4 : tie.Need-returns-4
 returns-4 c =
     let g = c .before .before .before .before .before .before .before .args in
-    rw (signs (g .held .service) (c .before .if1 .left)) (c .check2 .ensures)
+    rw (signs (g .held .service) (c .before .if1 .left), macUnder) (c .check2 .ensures)
 
 pub mac-is-right-spec : {M : Type 1} → statement M
 mac-is-right-spec =
     tie.close
-    (tie.spec
-    (λ c κs. search needs)
-    (λ c κs. search needs)
-    (λ c. search needs)
-    (λ c. search needs)
-    (λ c. search needs)
-    returns
-    returns-2
-    returns-3
-    (λ c κs. search needs)
-    returns-4)
+    (tie.spec (λ c κs. search needs) (λ c κs. search needs) (λ c. search needs) (λ c. search needs) (λ c. search needs) returns
+    returns-2 returns-3 (λ c κs. search needs) returns-4)

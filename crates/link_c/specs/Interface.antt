@@ -1,0 +1,49 @@
+-- The module as C calls it: the one number that a call returns, and what it leaves of the image, the numbers and the output that it was lent.
+-- Each call is the one of link's specs/Calls on the lent numbers, if they are 32.
+-- Assumes nothing.
+use Prim.Native.Nat.{ℕ, _+_, _*_, _/_, _%_, _^_}
+use mathlib.Core.Path.{_≡_}
+use mathlib.Core.Bool.{cond}
+use mathlib.Core.List.{List, []}
+use lib.Dec.{eqb}
+use lib.ListN.{length}
+use Rattle.association.specs.Image.{validImage}
+use Rattle.link.specs.Calls.{Left, refused, loaded, secured, checked}
+
+-- ---- the returned number: bits 0 to 31 hold the length of the result, 32 to 39 the stores, 40 to 47 the answer's number
+
+-- The remainders keep every part in its bits whatever is reported. A call reports so little that they lose nothing: proofs/Unpacking
+abbrev pub word : ℕ → ℕ → ℕ → ℕ
+word answer length stores = answer * 2 ^ 40 + stores % 2 ^ 8 * 2 ^ 32 + length % 2 ^ 32
+
+abbrev pub packed : Left → ℕ
+packed x = word (x .answer) (x .length) (x .stores)
+
+-- what C takes out of it
+pub record Unpacked (x : Left) : Type 0 where
+  pub answer : packed x / 2 ^ 40 ≡ x .answer
+  pub stores : packed x / 2 ^ 32 % 2 ^ 8 ≡ x .stores
+  pub length : packed x % 2 ^ 32 ≡ x .length
+
+-- ---- the calls
+
+-- Document 01 has 32 numbers. No other count agrees with an image: it is refused by 2, after 1 as everywhere
+abbrev pub counted : List ℕ → List ℕ → List ℕ → Left → Left
+counted image numbers output call = cond (eqb (length numbers) 32) call (refused (cond (validImage image) 2 1) image numbers output)
+
+unfoldable pub loadCall : List ℕ → List ℕ → Left
+loadCall image numbers = counted image numbers [] (loaded image numbers)
+
+unfoldable pub secureCall : List ℕ → List ℕ → ℕ → ℕ → List ℕ → List ℕ → Left
+secureCall image numbers kind spi frame output = counted image numbers output (secured image numbers kind spi frame output)
+
+unfoldable pub checkCall : List ℕ → List ℕ → ℕ → List ℕ → List ℕ → Left
+checkCall image numbers kind frame output = counted image numbers output (checked image numbers kind frame output)
+
+-- ---- what the caller sees of a call: the number, and the lent lists as it returns
+
+pub record Returned (call : Left) (r : ℕ) (i n o : List ℕ) : Type 0 where
+  pub result : r ≡ packed call
+  pub image : i ≡ call .image
+  pub numbers : n ≡ call .numbers
+  pub output : o ≡ call .output

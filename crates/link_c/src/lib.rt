@@ -1,0 +1,76 @@
+// The link security module for C: include/xistalvo.h declares these functions. A slice passes as a pointer and a count of its elements. Each
+// function is the one of crate `link` (or the cut of crate `association`) over lists that the caller lends: nothing is kept between calls.
+mod lent;
+mod packing;
+
+use lent::hand_back;
+use lent::numbers_in;
+use lent::refuse_count;
+use packing::pack;
+ghost use mathlib.Core.List.{[]};
+ghost use mathlib.Core.Path.{_≡_};
+ghost use Rattle.association.specs.Stores.{storesMade, afterStores};
+ghost use Rattle.link_c.specs.Interface.{Returned, loadCall, secureCall, checkCall};
+
+// A restart.
+#[no_mangle]
+pub extern "C" fn xistalvo_load(image: &[u8], numbers: &mut [u32]) -> u64
+    ensures { λ r. ⌜ Returned (loadCall (now (image .entry)) (now (numbers .entry))) r (now (image .entry)) (now (numbers .exit)) [] ⌝ }
+{
+    if numbers.len() != 32 {
+        return refuse_count(image);
+    }
+    let outcome = link::load(image, numbers_in(numbers));
+    let answer = outcome.answer;
+    hand_back(outcome.numbers, numbers);
+    pack(answer)
+}
+
+// The secured frame of a clear one, to the front of the output.
+#[no_mangle]
+pub extern "C" fn xistalvo_secure(
+    image: &mut [u8],
+    numbers: &mut [u32],
+    kind: u8,
+    spi: u16,
+    frame: &[u8],
+    output: &mut [u8],
+) -> u64
+    ensures { λ r. ⌜ Returned (secureCall (now (image .entry)) (now (numbers .entry)) kind spi (now (frame .entry)) (now (output .entry))) r (now (image .exit)) (now (numbers .exit)) (now (output .exit)) ⌝ }
+{
+    if numbers.len() != 32 {
+        return refuse_count(image);
+    }
+    let outcome = link::secure(image, numbers_in(numbers), kind, spi, frame, output);
+    let answer = outcome.answer;
+    hand_back(outcome.numbers, numbers);
+    pack(answer)
+}
+
+// The clear data of a secured frame, to the front of the output.
+#[no_mangle]
+pub extern "C" fn xistalvo_check(
+    image: &mut [u8],
+    numbers: &mut [u32],
+    kind: u8,
+    frame: &[u8],
+    output: &mut [u8],
+) -> u64
+    ensures { λ r. ⌜ Returned (checkCall (now (image .entry)) (now (numbers .entry)) kind (now (frame .entry)) (now (output .entry))) r (now (image .exit)) (now (numbers .exit)) (now (output .exit)) ⌝ }
+{
+    if numbers.len() != 32 {
+        return refuse_count(image);
+    }
+    let outcome = link::check(image, numbers_in(numbers), kind, frame, output);
+    let answer = outcome.answer;
+    hand_back(outcome.numbers, numbers);
+    pack(answer)
+}
+
+// The cut: the first `stores` of the octet stores that raise the mark of an entry to that of a number; how many were made.
+#[no_mangle]
+pub extern "C" fn xistalvo_raise(image: &mut [u8], entry: u8, number: u32, stores: u32) -> u32
+    ensures { λ r. ⌜ (r ≡ storesMade (now (image .entry)) entry number stores) × (now (image .exit) ≡ afterStores (now (image .entry)) entry number stores) ⌝ }
+{
+    association::raise(image, entry, number, stores)
+}

@@ -1,0 +1,96 @@
+/* The ground secures a telecommand frame and the spacecraft checks it; a replay is refused; both restart and go on. */
+#include "xistalvo.h"
+
+#include <stdio.h>
+#include <string.h>
+
+enum { SPI = 9, IMAGE_LENGTH = XISTALVO_IMAGE_LENGTH(1), SEND = 1, RECEIVE = 2 };
+
+/* One end of the link. The image has to outlive a loss of power; the numbers need not. */
+struct end {
+    const char *name;
+    uint8_t image[IMAGE_LENGTH];
+    uint32_t numbers[XISTALVO_NUMBERS];
+};
+
+/* An image with one association: service 2 (authenticated encryption) for TC frames of spacecraft 27, virtual channel 5. */
+static void build_image(uint8_t image[IMAGE_LENGTH], uint8_t direction)
+{
+    static const uint8_t contents[] = {
+        1, 1,         /* version; count */
+        0, SPI, 0, 6, /* the entry: SPI, position of its body */
+    };
+    const uint8_t fields[] = {
+        2, XISTALVO_TC, direction, 2,       /* service, kind, direction, state: operational */
+        0, 27, 5, 0,                        /* spacecraft, virtual channel, MAP */
+        0, 100,                             /* window */
+        0xFF, 0xFF, 0xFF, 0xFF, 0xFF, 0x00, /* header mask: the MAC covers all five octets */
+    };
+    memset(image, 0, IMAGE_LENGTH); /* the mark, in the last four octets, is 0 in a new image */
+    memcpy(image, contents, sizeof contents);
+    memcpy(image + 6, fields, sizeof fields);
+    for (uint8_t i = 0; i < 32; i++) {
+        image[22 + i] = i; /* the key; a real one comes from the key office */
+    }
+}
+
+static void say(const char *what, uint64_t result)
+{
+    printf("%s: %u, %s", what, XISTALVO_ANSWER(result), xistalvo_answer_name(XISTALVO_ANSWER(result)));
+}
+
+static void load(struct end *end)
+{
+    uint64_t result = xistalvo_load(end->image, IMAGE_LENGTH, end->numbers, XISTALVO_NUMBERS);
+    say(end->name, result);
+    printf("; the last number is %u\n", (unsigned)end->numbers[0]);
+}
+
+static size_t secure(struct end *ground, const char *data, uint8_t *output)
+{
+    size_t length = 5 + strlen(data);
+    uint8_t frame[XISTALVO_LARGEST_FRAME] = {0x00, 27, 5 << 2, (uint8_t)(length - 1), 0}; /* the length field is the length less one */
+    memcpy(frame + 5, data, strlen(data));
+    uint64_t result = xistalvo_secure(ground->image, IMAGE_LENGTH, ground->numbers, XISTALVO_NUMBERS, XISTALVO_TC, SPI, frame, length,
+                                      output, XISTALVO_LARGEST_FRAME);
+    say("secure", result);
+    printf("; number %u, stores %u, frame", (unsigned)ground->numbers[0], XISTALVO_STORES(result));
+    for (size_t i = 0; i < XISTALVO_LENGTH(result); i++) {
+        printf(" %02X", output[i]);
+    }
+    putchar('\n');
+    return XISTALVO_LENGTH(result);
+}
+
+static void check(struct end *space, const char *what, const uint8_t *frame, size_t length)
+{
+    uint8_t data[XISTALVO_LARGEST_FRAME];
+    uint64_t result = xistalvo_check(space->image, IMAGE_LENGTH, space->numbers, XISTALVO_NUMBERS, XISTALVO_TC, frame, length, data,
+                                     sizeof data);
+    say(what, result);
+    printf("; stores %u, data '%.*s'\n", XISTALVO_STORES(result), (int)XISTALVO_LENGTH(result), (const char *)data);
+}
+
+int main(void)
+{
+    static struct end ground = {"load on the ground", {0}, {0}};
+    static struct end space = {"load on the spacecraft", {0}, {0}};
+    static uint8_t frame[XISTALVO_LARGEST_FRAME];
+
+    build_image(ground.image, SEND);
+    build_image(space.image, RECEIVE);
+    load(&ground);
+    load(&space);
+
+    size_t length = secure(&ground, "HEAT 1200", frame);
+    check(&space, "check", frame, length);
+    check(&space, "the same frame again", frame, length);
+
+    load(&ground); /* a restart: the numbers were lost, the image was not */
+    length = secure(&ground, "HEAT 1250", frame);
+    check(&space, "check", frame, length);
+
+    load(&space); /* the spacecraft restarts too, and still knows the frame */
+    check(&space, "the same frame again", frame, length);
+    return 0;
+}

@@ -1,0 +1,80 @@
+"""The link security module from Python, by ctypes. The shared object is linked from the module's archive (see the script `run`)."""
+
+import ctypes
+
+NUMBERS = 32
+LARGEST_FRAME = 2048
+TC, TC_SEGMENT, TM = 1, 2, 3
+
+ANSWERS = (
+    "done",
+    "image breaks a rule",
+    "numbers do not agree with the marks",
+    "frame breaks a rule of its kind",
+    "no association matches",
+    "secured frame too short",
+    "output too short",
+    "MAC differs",
+    "number outside the window",
+    "padding error",
+    "numbers used up",
+    "secured frame would be too long",
+)
+
+
+class Result:
+    """What a call returned: the answer, the octets stored in the image, and the result's octets."""
+
+    def __init__(self, packed, output=b""):
+        self.answer = (packed >> 40) & 0xFF
+        self.stores = (packed >> 32) & 0xFF
+        self.octets = bytes(output[: packed & 0xFFFFFFFF])
+
+    def __str__(self):
+        return f"{self.answer}, {ANSWERS[self.answer]}"
+
+
+class Module:
+    """The functions of a shared object."""
+
+    def __init__(self, path):
+        library = ctypes.CDLL(path)
+        buffer, size, numbers = ctypes.POINTER(ctypes.c_uint8), ctypes.c_size_t, ctypes.POINTER(ctypes.c_uint32)
+        kind, spi = ctypes.c_uint8, ctypes.c_uint16
+        self._load = library.xistalvo_load
+        self._load.argtypes = [buffer, size, numbers, size]
+        self._secure = library.xistalvo_secure
+        self._secure.argtypes = [buffer, size, numbers, size, kind, spi, buffer, size, buffer, size]
+        self._check = library.xistalvo_check
+        self._check.argtypes = [buffer, size, numbers, size, kind, buffer, size, buffer, size]
+        for function in (self._load, self._secure, self._check):
+            function.restype = ctypes.c_uint64
+
+
+class End:
+    """One end of a link: an image, which has to outlive a loss of power, and its managed numbers, which need not."""
+
+    def __init__(self, module, image):
+        self.module = module
+        self.image = (ctypes.c_uint8 * len(image))(*image)
+        self.numbers = (ctypes.c_uint32 * NUMBERS)()
+
+    def load(self):
+        """Makes the numbers from the image. Every load is a restart."""
+        return Result(self.module._load(self.image, len(self.image), self.numbers, NUMBERS))
+
+    def secure(self, kind, spi, frame):
+        """The secured frame, in the result's octets."""
+        lent, output = (ctypes.c_uint8 * len(frame))(*frame), (ctypes.c_uint8 * LARGEST_FRAME)()
+        packed = self.module._secure(
+            self.image, len(self.image), self.numbers, NUMBERS, kind, spi, lent, len(frame), output, LARGEST_FRAME
+        )
+        return Result(packed, output)
+
+    def check(self, kind, frame):
+        """The clear data, in the result's octets."""
+        lent, output = (ctypes.c_uint8 * len(frame))(*frame), (ctypes.c_uint8 * LARGEST_FRAME)()
+        packed = self.module._check(
+            self.image, len(self.image), self.numbers, NUMBERS, kind, lent, len(frame), output, LARGEST_FRAME
+        )
+        return Result(packed, output)

@@ -1,0 +1,169 @@
+//! A safe wrapper of the link security module. Slices carry their own lengths and cannot overlap where one is lent for writing, which is all
+//! that the module asks of a caller; so nothing here can break its contract. `include/xistalvo.h` has that contract in words.
+
+/// The managed numbers of an image, one for each entry: the last number sent or accepted. Made by [`load`].
+#[derive(Clone, Debug, PartialEq, Eq)]
+pub struct Numbers([u32; 32]);
+
+impl Numbers {
+    /// The last number of an entry, or none where there is no such entry in any image.
+    pub fn last(&self, entry: usize) -> Option<u32> {
+        self.0.get(entry).copied()
+    }
+}
+
+/// The kinds of frames.
+#[derive(Clone, Copy, Debug, PartialEq, Eq)]
+pub enum Kind {
+    Tc = 1,
+    TcSegment = 2,
+    Tm = 3,
+}
+
+/// Why a call was refused. It then changed nothing.
+#[derive(Clone, Copy, Debug, PartialEq, Eq)]
+pub enum Refusal {
+    BadImage = 1,
+    NumbersDisagree = 2,
+    BadFrame = 3,
+    NoAssociation = 4,
+    SecuredTooShort = 5,
+    OutputTooShort = 6,
+    MacDiffers = 7,
+    NumberRefused = 8,
+    PaddingError = 9,
+    NumbersUsedUp = 10,
+    SecuredTooLong = 11,
+}
+
+impl Refusal {
+    /// The answer's number in the scope paper.
+    pub fn number(self) -> u8 {
+        self as u8
+    }
+
+    /// The answer in words.
+    pub fn name(self) -> &'static str {
+        match self {
+            Refusal::BadImage => "image breaks a rule",
+            Refusal::NumbersDisagree => "numbers do not agree with the marks",
+            Refusal::BadFrame => "frame breaks a rule of its kind",
+            Refusal::NoAssociation => "no association matches",
+            Refusal::SecuredTooShort => "secured frame too short",
+            Refusal::OutputTooShort => "output too short",
+            Refusal::MacDiffers => "MAC differs",
+            Refusal::NumberRefused => "number outside the window",
+            Refusal::PaddingError => "padding error",
+            Refusal::NumbersUsedUp => "numbers used up",
+            Refusal::SecuredTooLong => "secured frame would be too long",
+        }
+    }
+}
+
+/// A call that was done: the octets at the start of the output, and how many octets were stored in the image.
+#[derive(Clone, Copy, Debug, PartialEq, Eq)]
+pub struct Done {
+    pub length: usize,
+    pub stores: u8,
+}
+
+mod interface {
+    extern "C" {
+        pub fn xistalvo_load(image: *const u8, image_length: usize, numbers: *mut u32, numbers_length: usize) -> u64;
+        pub fn xistalvo_secure(
+            image: *mut u8,
+            image_length: usize,
+            numbers: *mut u32,
+            numbers_length: usize,
+            kind: u8,
+            spi: u16,
+            frame: *const u8,
+            frame_length: usize,
+            output: *mut u8,
+            output_length: usize,
+        ) -> u64;
+        pub fn xistalvo_check(
+            image: *mut u8,
+            image_length: usize,
+            numbers: *mut u32,
+            numbers_length: usize,
+            kind: u8,
+            frame: *const u8,
+            frame_length: usize,
+            output: *mut u8,
+            output_length: usize,
+        ) -> u64;
+        pub fn xistalvo_raise(image: *mut u8, image_length: usize, entry: u8, number: u32, stores: u32) -> u32;
+    }
+}
+
+/// Bits 0 to 31 are the length, 32 to 39 the stores, 40 to 47 the answer.
+fn unpack(result: u64) -> Result<Done, Refusal> {
+    let refusal = match (result >> 40) as u8 {
+        0 => return Ok(Done { length: result as u32 as usize, stores: (result >> 32) as u8 }),
+        1 => Refusal::BadImage,
+        2 => Refusal::NumbersDisagree,
+        3 => Refusal::BadFrame,
+        4 => Refusal::NoAssociation,
+        5 => Refusal::SecuredTooShort,
+        6 => Refusal::OutputTooShort,
+        7 => Refusal::MacDiffers,
+        8 => Refusal::NumberRefused,
+        9 => Refusal::PaddingError,
+        10 => Refusal::NumbersUsedUp,
+        11 => Refusal::SecuredTooLong,
+        other => unreachable!("the module has no answer {other}"),
+    };
+    Err(refusal)
+}
+
+/// A restart: makes the managed numbers from an image.
+pub fn load(image: &[u8]) -> Result<Numbers, Refusal> {
+    let mut numbers = Numbers([0; 32]);
+    // Safety: both ranges are lent with their lengths, and they do not overlap.
+    let result = unsafe { interface::xistalvo_load(image.as_ptr(), image.len(), numbers.0.as_mut_ptr(), numbers.0.len()) };
+    unpack(result).map(|_| numbers)
+}
+
+/// Secures a clear frame under the association with this SPI; the secured frame fills the start of the output.
+pub fn secure(image: &mut [u8], numbers: &mut Numbers, kind: Kind, spi: u16, frame: &[u8], output: &mut [u8]) -> Result<Done, Refusal> {
+    // Safety: as for `load`; what is lent for writing is borrowed alone.
+    unpack(unsafe {
+        interface::xistalvo_secure(
+            image.as_mut_ptr(),
+            image.len(),
+            numbers.0.as_mut_ptr(),
+            numbers.0.len(),
+            kind as u8,
+            spi,
+            frame.as_ptr(),
+            frame.len(),
+            output.as_mut_ptr(),
+            output.len(),
+        )
+    })
+}
+
+/// Checks a secured frame; the clear data fills the start of the output.
+pub fn check(image: &mut [u8], numbers: &mut Numbers, kind: Kind, frame: &[u8], output: &mut [u8]) -> Result<Done, Refusal> {
+    // Safety: as for `secure`.
+    unpack(unsafe {
+        interface::xistalvo_check(
+            image.as_mut_ptr(),
+            image.len(),
+            numbers.0.as_mut_ptr(),
+            numbers.0.len(),
+            kind as u8,
+            frame.as_ptr(),
+            frame.len(),
+            output.as_mut_ptr(),
+            output.len(),
+        )
+    })
+}
+
+/// The cut: makes the first stores of those that raise an entry's mark to number/64, and says how many it made.
+pub fn raise(image: &mut [u8], entry: u8, number: u32, stores: u32) -> u32 {
+    // Safety: the range is lent with its length.
+    unsafe { interface::xistalvo_raise(image.as_mut_ptr(), image.len(), entry, number, stores) }
+}

@@ -1,0 +1,132 @@
+/* The link security module, called from C or C++: load an image, secure a frame, check a frame, cut a call short.
+ *
+ * The module's scope paper decides what it does; what it decides is said here in short, so that this file can be used alone.
+ *
+ * Memory. The module keeps nothing between calls: image and managed numbers are the caller's. Every pointer goes with the length of the
+ * range that it lends for the call, in octets (numbers: in elements). A pointer is never null; a length may be 0, and then the pointer
+ * may point anywhere. Ranges lent to one call must not overlap. A call reads and writes nothing outside them. It ends for every input, and
+ * has no other condition to meet: whatever the ranges hold, an answer comes back.
+ *
+ * The image is the table of associations: octet 0 is the version, 1, octet 1 the count k, 0 to 32, then k entries of 4 octets (SPI,
+ * position of the body), then k bodies of 52 octets; all in all 2 + 56 k octets, numbers big-endian. Keep it where it outlives a loss of
+ * power: a call stores into it one octet at a time, and what a loss leaves after any of these stores is an image to load again.
+ *
+ * The managed numbers are uint32_t[32], element i for entry i: the last number sent or accepted. They are made by xistalvo_load and
+ * changed by xistalvo_secure and xistalvo_check. They need not outlive a loss of power; load again after it. numbers_length counts
+ * elements and must be 32: with another count no numbers agree with any image, and the answer is 2 (or 1, which comes first).
+ *
+ * Calls on one image must follow one another; calls on different images and numbers may run at the same time. */
+#ifndef XISTALVO_H
+#define XISTALVO_H
+
+#include <stddef.h>
+#include <stdint.h>
+
+#ifdef __cplusplus
+extern "C" {
+#endif
+
+/* The managed numbers of one image, in elements. */
+#define XISTALVO_NUMBERS 32
+
+/* The octets of an image of k associations, and of the largest. */
+#define XISTALVO_IMAGE_LENGTH(k) (2 + 56 * (k))
+#define XISTALVO_LARGEST_IMAGE 1794
+
+/* The frame kinds. Any other number is answered by 3. */
+#define XISTALVO_TC 1         /* telecommand, header of 5 octets, at most 1,024 octets */
+#define XISTALVO_TC_SEGMENT 2 /* telecommand with segment header, 6 octets, at most 1,024 */
+#define XISTALVO_TM 3         /* telemetry, header of 6 octets, at most 2,048, perhaps with an operational control field (OCF) */
+
+/* An output of this many octets is long enough for every result. */
+#define XISTALVO_LARGEST_FRAME 2048
+
+/* What a call answers. The first that applies is given, in the order that each call names below. */
+enum xistalvo_answer {
+    XISTALVO_DONE = 0,                /* Done. */
+    XISTALVO_BAD_IMAGE = 1,           /* The image breaks a rule of its layout. */
+    XISTALVO_NUMBERS_DISAGREE = 2,    /* For some entry, number/64 rounded down is not the entry's mark; or there are not 32 numbers. */
+    XISTALVO_BAD_FRAME = 3,           /* No such kind, or the frame breaks its kind's header rules, length field or size. */
+    XISTALVO_NO_ASSOCIATION = 4,      /* No operational entry has the SPI and matches direction, kind, spacecraft, channel and MAP. */
+    XISTALVO_SECURED_TOO_SHORT = 5,   /* The secured frame has no room for security header, one octet of data and MAC. */
+    XISTALVO_OUTPUT_TOO_SHORT = 6,    /* The output is shorter than the result. */
+    XISTALVO_MAC_DIFFERS = 7,         /* The MAC is not the one that key, header, security header and data give. */
+    XISTALVO_NUMBER_REFUSED = 8,      /* The frame's number is outside the window, or above 4,294,967,295. */
+    XISTALVO_PADDING_ERROR = 9,       /* More fill octets stated than data octets. No frame states any, so no call answers this. */
+    XISTALVO_NUMBERS_USED_UP = 10,    /* The last number is already 4,294,967,295; nothing more can be sent. */
+    XISTALVO_SECURED_TOO_LONG = 11    /* The secured frame would be longer than its kind allows. */
+};
+
+/* Load, secure and check return one number: bits 0 to 31 hold the length of the result in octets, bits 32 to 39 the number of octets
+ * stored in the image, 0 to 16, and bits 40 to 47 the answer. Bits 48 to 63 are 0. A refusal has length 0 and no stores. */
+#define XISTALVO_ANSWER(result) ((unsigned int)(((result) >> 40) & 0xFFu))
+#define XISTALVO_STORES(result) ((unsigned int)(((result) >> 32) & 0xFFu))
+#define XISTALVO_LENGTH(result) ((size_t)((result) & 0xFFFFFFFFu))
+
+/* A restart: reads the image and makes the managed numbers.
+ *
+ * Answers, in this order: 1; 2, only where numbers_length is not 32; 0.
+ * Done: for each entry i of the image, numbers[i] becomes 64 m + 63, where m is the entry's mark; every other element becomes 0. The length
+ * and the stores are 0.
+ * Refused: the numbers stay as they were. The image is never written. */
+uint64_t xistalvo_load(const uint8_t *image, size_t image_length, uint32_t *numbers, size_t numbers_length);
+
+/* Secures a clear frame under the association that has this SPI, for sending.
+ *
+ * Answers, in this order: 1, 2, 3 (a clear frame has at least one octet of data), 4 (with direction 'send'), 11, 6, 10, 0.
+ * Done: the number n is numbers[i] + 1, where i is the entry. First the mark of entry i is raised, one at a time, to n/64 rounded down, one
+ * octet of the image stored for each raise; the stores are counted, here 0 or 1. The secured frame fills the start of the output: the
+ * header, for TC with its length field rewritten; the SPI and n, in 4 octets (service 1) or 12 (service 2); the data, encrypted by
+ * service 2; the MAC, 16 octets; the OCF if the frame has one. The length is that of the secured frame: 22 more than the clear frame's
+ * (service 1) or 30 more (service 2). numbers[i] becomes n. The rest of the output, the rest of the image and the other numbers stay.
+ * Refused: image, numbers and output stay as they were. The frame is never written. */
+uint64_t xistalvo_secure(uint8_t *image, size_t image_length, uint32_t *numbers, size_t numbers_length, uint8_t kind, uint16_t spi,
+                         const uint8_t *frame, size_t frame_length, uint8_t *output, size_t output_length);
+
+/* Checks a secured frame that was received, and releases its data.
+ *
+ * Answers, in this order: 1, 2, 3 (a secured frame has at least its SPI), 4 (the SPI of the frame, with direction 'receive'), 5, 6, 7, 8,
+ * 0. The place of 9 is before 6; it is never given. The frame's number n is accepted where numbers[i] < n, n is at most numbers[i] + window
+ * and at most 4,294,967,295, over whole numbers, where i is the entry.
+ * Done: first the mark of entry i is raised, one at a time, to n/64 rounded down, one octet of the image stored for each raise; the stores
+ * are counted, at most 16. The clear data alone, without header and OCF, fills the start of the output, and the length is that of the data.
+ * numbers[i] becomes n. The rest of the output, the rest of the image and the other numbers stay.
+ * Refused: image, numbers and output stay as they were, and nothing is decrypted. The frame is never written. */
+uint64_t xistalvo_check(uint8_t *image, size_t image_length, uint32_t *numbers, size_t numbers_length, uint8_t kind, const uint8_t *frame,
+                        size_t frame_length, uint8_t *output, size_t output_length);
+
+/* The cut: what a call that took this number leaves of the image when power fails after its first stores.
+ *
+ * Makes, of the octet stores that raise the mark of this entry one at a time to number/64 rounded down, the first as many as 'stores'
+ * says, or all where there are fewer, and returns how many it made. Where the mark is already there or higher there are none.
+ * An image whose version is not 1, whose count is above 32 or whose length is not 2 + 56 k, and an entry that is not below the count k: none
+ * is made and 0 returned. No other rule of the image is tested; the mark is where the layout puts it, in the last 4 octets of the body at
+ * 2 + 4 k + 52 entry, whatever the contents say of its position.
+ * Only those octets of the image are written. Securing and checking make all their stores before they write the output. */
+uint32_t xistalvo_raise(uint8_t *image, size_t image_length, uint8_t entry, uint32_t number, uint32_t stores);
+
+/* Says an answer in words. */
+static inline const char *xistalvo_answer_name(unsigned int answer)
+{
+    switch (answer) {
+    case XISTALVO_DONE: return "done";
+    case XISTALVO_BAD_IMAGE: return "image breaks a rule";
+    case XISTALVO_NUMBERS_DISAGREE: return "numbers do not agree with the marks";
+    case XISTALVO_BAD_FRAME: return "frame breaks a rule of its kind";
+    case XISTALVO_NO_ASSOCIATION: return "no association matches";
+    case XISTALVO_SECURED_TOO_SHORT: return "secured frame too short";
+    case XISTALVO_OUTPUT_TOO_SHORT: return "output too short";
+    case XISTALVO_MAC_DIFFERS: return "MAC differs";
+    case XISTALVO_NUMBER_REFUSED: return "number outside the window";
+    case XISTALVO_PADDING_ERROR: return "padding error";
+    case XISTALVO_NUMBERS_USED_UP: return "numbers used up";
+    case XISTALVO_SECURED_TOO_LONG: return "secured frame would be too long";
+    default: return "no answer of the module";
+    }
+}
+
+#ifdef __cplusplus
+}
+#endif
+
+#endif

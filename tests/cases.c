@@ -1,0 +1,352 @@
+/* The cases A to O of document 01 through the C interface, with the paper's own figures, and its slips. Each call is also compared with the
+ * independent reading (support/both.h). First the reading itself is held to published vectors, so that its library is used rightly. */
+#include "independent/ciphers.h"
+#include "support/both.h"
+
+#include <stdio.h>
+#include <stdlib.h>
+#include <string.h>
+
+static struct random test_random;
+static unsigned passed;
+
+static void expect(bool is_right, const char *name, const char *what)
+{
+    if (!is_right) {
+        fprintf(stderr, "cases: %s: %s\n", name, what);
+        exit(1);
+    }
+}
+
+static size_t octets_of(const char *hex, uint8_t *octets)
+{
+    size_t length = 0;
+    for (; hex[0] != '\0'; hex += hex[0] == ' ' ? 1 : 2) {
+        if (hex[0] != ' ') {
+            char pair[] = {hex[0], hex[1], '\0'};
+            octets[length++] = (uint8_t)strtoul(pair, NULL, 16);
+        }
+    }
+    return length;
+}
+
+static bool starts_with(const uint8_t *octets, const char *hex)
+{
+    uint8_t expected[FRAME_ROOM];
+    return memcmp(octets, expected, octets_of(hex, expected)) == 0;
+}
+
+/* ---- published vectors, for the reading's ciphers ---- */
+
+/* NIST SP 800-38B, the examples for AES-256; lengths in octets. */
+static void try_cmac_vectors(void)
+{
+    static const struct {
+        size_t length;
+        const char *mac;
+    } vectors[] = {
+        {0, "028962f61b7bf89efc6b551f4667d983"},
+        {16, "28a7023f452e8f82bd4bf28d8c37c35c"},
+        {40, "aaf3d8f1de5640c232f5b169b9c911e6"},
+        {64, "e1992190549f6ed5696a2c056c315410"},
+    };
+    uint8_t key[KEY_LENGTH], message[64], mac[MAC_LENGTH];
+    octets_of("603deb1015ca71be2b73aef0857d77811f352c073b6108d72d9810a30914dff4", key);
+    octets_of("6bc1bee22e409f96e93d7e117393172aae2d8a571e03ac9c9eb76fac45af8e51"
+              "30c81c46a35ce411e5fbc1191a0a52eff69f2445df4f9b17ad2b417be66c3710", message);
+    for (size_t i = 0; i < sizeof vectors / sizeof vectors[0]; i++) {
+        cmac(key, message, vectors[i].length, mac);
+        expect(starts_with(mac, vectors[i].mac), "SP 800-38B", "a MAC of the reading differs from the published one");
+        passed++;
+    }
+}
+
+/* The GCM specification, test case 16. */
+static void try_gcm_vector(void)
+{
+    uint8_t key[KEY_LENGTH], iv[SEQUENCE_LENGTH], additional[20], plain[60], cipher[60], opened[60], tag[MAC_LENGTH];
+    octets_of("feffe9928665731c6d6a8f9467308308feffe9928665731c6d6a8f9467308308", key);
+    octets_of("cafebabefacedbaddecaf888", iv);
+    octets_of("feedfacedeadbeeffeedfacedeadbeefabaddad2", additional);
+    octets_of("d9313225f88406e5a55909c5aff5269a86a7a9531534f7da2e4c303d8a318a72"
+              "1c3c0c95956809532fcf0e2449a6b525b16aedf5aa0de657ba637b39", plain);
+    gcm_seal(key, iv, additional, sizeof additional, plain, sizeof plain, cipher, tag);
+    expect(starts_with(cipher, "522dc1f099567d07f47f37a32a84427d643a8cdcbfe5c0c97598a2bd2555d1aa"
+                               "8cb08e48590dbb3da7b08b1056828838c5f61e6393ba7a0abcc9f662"), "GCM", "the ciphertext differs");
+    expect(starts_with(tag, "76fc6ece0f4e1768cddf8853bb2d551b"), "GCM", "the tag differs");
+    expect(gcm_open(key, iv, additional, sizeof additional, cipher, sizeof cipher, tag, opened), "GCM", "the tag is not accepted");
+    expect(memcmp(plain, opened, sizeof plain) == 0, "GCM", "the text does not come back");
+    passed++;
+}
+
+/* ---- the association of case B, and what varies in the others ---- */
+
+struct setting {
+    unsigned service, kind, direction, window;
+    uint32_t mark;
+};
+
+static size_t image_of(const struct setting *setting, uint8_t *image)
+{
+    struct table table;
+    struct association *entry = &table.entries[0];
+    memset(&table, 0, sizeof table);
+    table.count = 1;
+    entry->spi = 9;
+    entry->service = setting->service;
+    entry->kind = setting->kind;
+    entry->direction = setting->direction;
+    entry->state = 2;
+    entry->spacecraft = 27;
+    entry->channel = 5;
+    entry->map = 0;
+    entry->window = setting->window;
+    octets_of(setting->kind == 1 ? "3F FF FC 03 00 00" : "3F FF FC 03 00 3F", entry->mask); /* so that masking shows in every MAC */
+    for (size_t i = 0; i < KEY_LENGTH; i++) {
+        entry->key[i] = (uint8_t)i;
+    }
+    entry->mark = setting->mark;
+    return write_image(&table, image);
+}
+
+static uint32_t code_in(const uint8_t *image)
+{
+    return (uint32_t)image[54] << 24 | (uint32_t)image[55] << 16 | (uint32_t)image[56] << 8 | image[57];
+}
+
+static void start_input(struct input *input, enum which_call which, const struct setting *setting)
+{
+    memset(input, 0, sizeof *input);
+    input->which = which;
+    input->image_length = image_of(setting, input->image);
+    input->numbers_length = NUMBER_COUNT;
+    input->kind = (uint8_t)setting->kind;
+    input->spi = 9;
+    input->output_length = LARGEST_FRAME;
+    memset(input->output, 0x5A, input->output_length);
+}
+
+/* A clear frame of spacecraft 27 and channel 5, of this length, all of its data AA; of kind 1 and length 6 it is that of case C. A TM frame
+ * has an operational control field. */
+static size_t clear_frame(unsigned kind, size_t length, uint8_t *frame)
+{
+    memset(frame, 0xAA, length);
+    octets_of(kind == 3 ? "01 BB 00 00 00 00" : kind == 2 ? "00 1B 14 00 00 C0" : "00 1B 14 00 00", frame);
+    if (kind != 3) {
+        write_tc_length(frame, length);
+    }
+    return length;
+}
+
+/* ---- calls, as a table ---- */
+
+struct a_case {
+    const char *name;
+    enum which_call which;
+    struct setting setting;
+    uint32_t last;
+    size_t clear_length;       /* of the frame to secure, or of the one that the other end secured */
+    uint64_t number;           /* that the other end gave it */
+    uint8_t first_octet;       /* added into its IV */
+    bool is_spoiled;           /* its MAC has a wrong bit */
+    unsigned answer;
+    size_t length;
+    unsigned stores;
+    uint32_t last_after;
+    uint32_t code_after;
+};
+
+#define SEND(service, kind, mark) {service, kind, 1, 100, mark}
+#define RECEIVE(service, kind, window, mark) {service, kind, 2, window, mark}
+#define LAST_NUMBER 4294967295u
+#define LAST_MARK 67108863u
+#define LAST_CODE 0x02000000u
+
+static const struct a_case cases[] = {
+    {"B: load gives 63", CALL_LOAD, SEND(1, 1, 0), 0, 6, 0, 0, false, 0, 0, 0, 63, 0},
+    {"C: well formed; D: 28 octets, one store", CALL_SECURE, SEND(1, 1, 0), 63, 6, 0, 0, false, 0, 28, 1, 64, 1},
+    {"E: 63 gives 8", CALL_CHECK, RECEIVE(1, 1, 100, 0), 63, 6, 63, 0, false, 8, 0, 0, 63, 0},
+    {"E: 64 passes", CALL_CHECK, RECEIVE(1, 1, 100, 0), 63, 6, 64, 0, false, 0, 1, 1, 64, 1},
+    {"F: 163 passes", CALL_CHECK, RECEIVE(1, 1, 100, 0), 63, 6, 163, 0, false, 0, 1, 2, 163, 3},
+    {"F: 164 gives 8", CALL_CHECK, RECEIVE(1, 1, 100, 0), 63, 6, 164, 0, false, 8, 0, 0, 63, 0},
+    {"H: after G's cut 163 passes with one store", CALL_CHECK, RECEIVE(1, 1, 100, 1), 127, 6, 163, 0, false, 0, 1, 1, 163, 3},
+    {"I: 1,087 takes 16 stores", CALL_CHECK, RECEIVE(1, 1, 1024, 0), 63, 6, 1087, 0, false, 0, 1, 16, 1087, 24},
+    {"J: mark 255 to 256", CALL_SECURE, SEND(1, 1, 255), 16383, 6, 0, 0, false, 0, 28, 1, 16384, 0x180},
+    {"K: load gives 4,294,967,295", CALL_LOAD, SEND(1, 1, LAST_MARK), 0, 6, 0, 0, false, 0, 0, 0, LAST_NUMBER, LAST_CODE},
+    {"K: sending gives 10", CALL_SECURE, SEND(1, 1, LAST_MARK), LAST_NUMBER, 6, 0, 0, false, 10, 0, 0, LAST_NUMBER, LAST_CODE},
+    {"L: 1,002 gives 1,024", CALL_SECURE, SEND(1, 1, 0), 63, 1002, 0, 0, false, 0, 1024, 1, 64, 1},
+    {"L: 1,003 gives 11", CALL_SECURE, SEND(1, 1, 0), 63, 1003, 0, 0, false, 11, 0, 0, 63, 0},
+    {"L: 1,002 with segment header", CALL_SECURE, SEND(1, 2, 0), 63, 1002, 0, 0, false, 0, 1024, 1, 64, 1},
+    {"L: 1,003 with segment header", CALL_SECURE, SEND(1, 2, 0), 63, 1003, 0, 0, false, 11, 0, 0, 63, 0},
+    {"M: 994 gives 1,024", CALL_SECURE, SEND(2, 1, 0), 63, 994, 0, 0, false, 0, 1024, 1, 64, 1},
+    {"M: 995 gives 11", CALL_SECURE, SEND(2, 1, 0), 63, 995, 0, 0, false, 11, 0, 0, 63, 0},
+    {"N: IV with a first octet 01", CALL_CHECK, RECEIVE(2, 1, 100, 0), 63, 6, 64, 1, false, 8, 0, 0, 63, 0},
+    {"N: the same IV without it", CALL_CHECK, RECEIVE(2, 1, 100, 0), 63, 6, 64, 0, false, 0, 1, 1, 64, 1},
+    {"O: IV number 4,294,967,296", CALL_CHECK, RECEIVE(2, 1, 100, LAST_MARK), 4294967290u, 6, 4294967296u, 0, false, 8, 0, 0,
+     4294967290u, LAST_CODE},
+    {"O: IV number 4,294,967,295", CALL_CHECK, RECEIVE(2, 1, 100, LAST_MARK), 4294967290u, 6, LAST_NUMBER, 0, false, 0, 1, 0, LAST_NUMBER,
+     LAST_CODE},
+    /* TM with OCF, at its own limits */
+    {"TM: an octet of data and the OCF", CALL_SECURE, SEND(1, 3, 0), 63, 11, 0, 0, false, 0, 33, 1, 64, 1},
+    {"TM: without data", CALL_SECURE, SEND(1, 3, 0), 63, 10, 0, 0, false, 3, 0, 0, 63, 0},
+    {"TM: the OCF is not released", CALL_CHECK, RECEIVE(1, 3, 100, 0), 63, 20, 64, 0, false, 0, 10, 1, 64, 1},
+    {"TM: the OCF is not released, service 2", CALL_CHECK, RECEIVE(2, 3, 100, 0), 63, 20, 64, 0, false, 0, 10, 1, 64, 1},
+    {"TM: 2,026 gives 2,048", CALL_SECURE, SEND(1, 3, 0), 63, 2026, 0, 0, false, 0, 2048, 1, 64, 1},
+    {"TM: 2,027 gives 11", CALL_SECURE, SEND(1, 3, 0), 63, 2027, 0, 0, false, 11, 0, 0, 63, 0},
+    {"TM: 2,018 gives 2,048, service 2", CALL_SECURE, SEND(2, 3, 0), 63, 2018, 0, 0, false, 0, 2048, 1, 64, 1},
+    {"TM: 2,019 gives 11, service 2", CALL_SECURE, SEND(2, 3, 0), 63, 2019, 0, 0, false, 11, 0, 0, 63, 0},
+    {"TM: 2,049 gives 3", CALL_SECURE, SEND(1, 3, 0), 63, 2049, 0, 0, false, 3, 0, 0, 63, 0},
+    /* the slips that can be seen from outside */
+    {"slip: the window before the MAC", CALL_CHECK, RECEIVE(1, 1, 100, 0), 63, 6, 164, 0, true, 7, 0, 0, 63, 0},
+    {"slip: the window before the MAC, service 2", CALL_CHECK, RECEIVE(2, 1, 100, 0), 63, 6, 164, 0, true, 7, 0, 0, 63, 0},
+    {"slip: n - last modulo 2^32", CALL_CHECK, RECEIVE(1, 1, 100, LAST_MARK), 4294967290u, 6, 3, 0, false, 8, 0, 0, 4294967290u,
+     LAST_CODE},
+    {"slip: an output that is cleared on a bad MAC", CALL_CHECK, RECEIVE(2, 1, 100, 0), 63, 40, 64, 0, true, 7, 0, 0, 63, 0},
+};
+
+/* The frame that the other end secured, made by the reading. */
+static void make_received(const struct a_case *a_case, struct input *input)
+{
+    struct table table;
+    struct header header;
+    uint8_t clear[FRAME_ROOM], sequence[SEQUENCE_LENGTH];
+    size_t length = clear_frame(a_case->setting.kind, a_case->clear_length, clear);
+    expect(read_image(input->image, input->image_length, &table), a_case->name, "the image breaks a rule");
+    expect(read_clear_frame(a_case->setting.kind, clear, length, &header), a_case->name, "the frame breaks a rule");
+    sequence_of_number(a_case->number, sequence);
+    sequence[0] = (uint8_t)(sequence[0] + a_case->first_octet);
+    input->frame_length = protect_frame(&table.entries[0], &header, sequence, clear, length, input->frame);
+    if (a_case->is_spoiled) {
+        input->frame[input->frame_length - header.trailer - 1] ^= 1;
+    }
+}
+
+static void try_case(const struct a_case *a_case)
+{
+    static struct input input;
+    start_input(&input, a_case->which, &a_case->setting);
+    input.numbers[0] = a_case->last;
+    if (a_case->which == CALL_CHECK) {
+        make_received(a_case, &input);
+    } else {
+        input.frame_length = clear_frame(a_case->setting.kind, a_case->clear_length, input.frame);
+    }
+    struct outcome outcome = both_run(&test_random, &input);
+    expect(outcome.answer == a_case->answer, a_case->name, "another answer");
+    expect(outcome.length == a_case->length, a_case->name, "another length");
+    expect(outcome.stores == a_case->stores, a_case->name, "another number of stores");
+    expect(input.numbers[0] == a_case->last_after, a_case->name, "another number afterwards");
+    expect(code_in(input.image) == a_case->code_after, a_case->name, "another mark afterwards");
+    passed++;
+}
+
+/* ---- cuts, as a table ---- */
+
+struct a_cut {
+    const char *name;
+    uint32_t mark;
+    uint32_t number;
+    uint32_t stores;
+    uint32_t made;
+    uint32_t code_after;
+    uint32_t load_after;
+};
+
+static const struct a_cut cuts[] = {
+    {"G: 163, cut before the first", 0, 163, 0, 0, 0, 63},
+    {"G: 163 stores 01; load gives 127", 0, 163, 1, 1, 1, 127},
+    {"G: 163 then stores 03", 0, 163, 2, 2, 3, 191},
+    {"G: 163 has no third store", 0, 163, 3, 2, 3, 191},
+    {"I: 1,087 has 16 stores", 0, 1087, 100, 16, 24, 1087},
+    {"J: 255 to 256 is one octet", 255, 16384, 1, 1, 0x180, 16447},
+    {"K: the last raise", LAST_MARK - 1, LAST_NUMBER, 16, 1, LAST_CODE, LAST_NUMBER},
+    {"a mark is never lowered", 7, 63, 16, 0, 4, 511},
+};
+
+static void try_cut(const struct a_cut *cut)
+{
+    static struct input input;
+    struct setting setting = RECEIVE(1, 1, 1024, cut->mark);
+    start_input(&input, CALL_LOAD, &setting);
+    uint32_t made = both_raise(&test_random, input.image, input.image_length, 0, cut->number, cut->stores);
+    expect(made == cut->made, cut->name, "another number of stores");
+    expect(code_in(input.image) == cut->code_after, cut->name, "another mark afterwards");
+    expect(both_run(&test_random, &input).answer == 0, cut->name, "the image does not load");
+    expect(input.numbers[0] == cut->load_after, cut->name, "the load gives another number");
+    passed++;
+}
+
+/* ---- octets that the paper writes out ---- */
+
+static void try_case_a(void)
+{
+    static struct input input;
+    memset(&input, 0, sizeof input);
+    memset(input.numbers, 0xFF, sizeof input.numbers);
+    input.which = CALL_LOAD;
+    input.image_length = octets_of("01 00", input.image);
+    input.numbers_length = NUMBER_COUNT;
+    expect(both_run(&test_random, &input).answer == 0, "A", "it does not load");
+    for (size_t i = 0; i < NUMBER_COUNT; i++) {
+        expect(input.numbers[i] == 0, "A", "a number is not 0");
+    }
+    passed++;
+}
+
+static void try_case_b_layout(void)
+{
+    uint8_t image[LARGEST_IMAGE];
+    struct setting setting = SEND(1, 1, 0);
+    expect(image_of(&setting, image) == 58, "B", "the image has not 58 octets");
+    expect(starts_with(image, "01 01 00 09 00 06 01 01 01 02 00 1B 05 00 00 64"), "B", "the image is laid out otherwise");
+    passed++;
+}
+
+static void try_cases_c_and_d(void)
+{
+    static struct input input;
+    struct setting setting = SEND(1, 1, 0);
+    start_input(&input, CALL_SECURE, &setting);
+    input.numbers[0] = 63;
+    input.frame_length = octets_of("00 1B 14 06 00 AA", input.frame);
+    expect(both_run(&test_random, &input).answer == 3, "C", "fourth octet 06 is not refused by 3");
+    octets_of("00 1B 14 05 00 AA", input.frame);
+    expect(both_run(&test_random, &input).length == 28, "D", "the secured frame has not 28 octets");
+    expect(starts_with(input.output, "00 1B 14 1B 00 00 09 00 00 00 40 AA"), "D", "the secured frame starts otherwise");
+    expect(input.image[57] == 1, "D", "octet 57 is not 01");
+    passed += 2;
+}
+
+static void try_listing(const char *name, const struct setting *setting, size_t octets_more, const char *expected)
+{
+    uint8_t image[LARGEST_IMAGE + 2] = {0};
+    char text[LISTING_ROOM];
+    listing_text(image, image_of(setting, image) + octets_more, text);
+    expect(strcmp(text, expected) == 0, name, "the reading lists it otherwise");
+    passed++;
+}
+
+int main(void)
+{
+    const struct setting new_image = SEND(1, 1, 0);
+    const struct setting last_image = SEND(1, 1, LAST_MARK);
+    test_random = random_stream(1, 0);
+    both_prepare("cases");
+    try_cmac_vectors();
+    try_gcm_vector();
+    try_case_a();
+    try_case_b_layout();
+    try_cases_c_and_d();
+    for (size_t i = 0; i < sizeof cases / sizeof cases[0]; i++) {
+        both_at(1, 0, i);
+        try_case(&cases[i]);
+    }
+    for (size_t i = 0; i < sizeof cuts / sizeof cuts[0]; i++) {
+        try_cut(&cuts[i]);
+    }
+    try_listing("listing of B", &new_image, 0, "spi service kind direction state window next\n9 1 1 1 2 100 64\n");
+    try_listing("listing of K", &last_image, 0, "spi service kind direction state window next\n9 1 1 1 2 100 none\n");
+    try_listing("listing of B with an octet more", &new_image, 1, "refused 1\n");
+    printf("cases: %u passed, A to O among them\n", passed);
+    return 0;
+}

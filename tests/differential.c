@@ -1,0 +1,675 @@
+/* The module and the independent reading of document 01 on the same inputs: answer, length, stores, image, numbers and output are compared
+ * after every call, refused ones too, with guards around every range (support/both.h).
+ *
+ *   differential [--seed S] [--count N] [--from W]
+ *
+ * An input is one call. Inputs come in worlds: two ends of a link with random associations, and about forty calls on them. The generator of
+ * world W is made from the seed and W alone, so --from W takes a run up there. At the end the answers are counted by call, kind and service
+ * of the association that the input was made for; a long run that misses an answer that can be reached fails. */
+#include "support/both.h"
+#include "support/options.h"
+#include "support/worlds.h"
+
+#include <inttypes.h>
+#include <stdio.h>
+#include <string.h>
+
+enum { CALLS_PER_WORLD = 40, ANSWERS = 12, ENOUGH_FOR_EVERY_ANSWER = 50000 };
+
+struct run {
+    struct options options;
+    struct random random;
+    uint64_t inputs;
+    uint64_t raises;
+    uint64_t round_trips;
+    uint64_t isolations;
+    uint64_t stores[MOST_STORES + 1]; /* checks that were done, by their stores */
+    uint64_t tally[3][4][3][ANSWERS]; /* call; kind, or 0 for a number that names none; service, or 0 for an empty image; answer */
+};
+
+/* The entry that an input is made for. An empty image has none, and gets an association that it does not hold. */
+struct target {
+    bool is_held;
+    size_t entry;
+    struct association association;
+};
+
+/* ---- choosing ---- */
+
+static size_t any_count(struct random *random)
+{
+    uint32_t chance = random_below(random, 100);
+    if (chance < 2) {
+        return 0;
+    }
+    if (chance < 8) {
+        return 32;
+    }
+    return chance < 80 ? random_between(random, 1, 4) : random_between(random, 5, 31);
+}
+
+/* Most inputs are made for an entry of the direction that the call needs. */
+static struct target any_target(struct run *run, const struct end *end, unsigned direction)
+{
+    struct target target;
+    struct table table;
+    table_of(end, &table);
+    target.is_held = table.count != 0;
+    target.entry = 0;
+    memset(&target.association, 0, sizeof target.association);
+    target.association.service = 1;
+    target.association.kind = 1;
+    for (unsigned tries = 0; target.is_held && tries < 8; tries++) {
+        target.entry = random_below(&run->random, (uint32_t)table.count);
+        target.association = table.entries[target.entry];
+        if (target.association.direction == direction && target.association.state == 2) {
+            break;
+        }
+    }
+    return target;
+}
+
+static void any_output(struct random *random, struct input *input, size_t needed)
+{
+    uint32_t chance = random_below(random, 100);
+    size_t length = 2048;
+    if (chance < 40) {
+        length = needed;
+    } else if (chance < 50) {
+        length = needed - 1;
+    } else if (chance < 60) {
+        length = needed + 1;
+    } else if (chance < 63) {
+        length = random_below(random, (uint32_t)needed);
+    } else if (chance < 65) {
+        length = 0;
+    } else if (chance < 80) {
+        length = random_below(random, 2300);
+    }
+    input->output_length = length;
+    memset(input->output, (int)random_below(random, 256), length);
+}
+
+/* ---- breaking ---- */
+
+static void flip_bit(struct random *random, uint8_t *octets, size_t length)
+{
+    if (length != 0) {
+        octets[random_below(random, (uint32_t)length)] ^= (uint8_t)(1u << random_below(random, 8));
+    }
+}
+
+/* A field of one body or of the contents goes to a value at or beyond its limit. */
+static void strain_field(struct random *random, struct input *input)
+{
+    struct table table;
+    if (!read_image(input->image, input->image_length, &table) || table.count == 0) {
+        return;
+    }
+    struct association *entry = &table.entries[random_below(random, (uint32_t)table.count)];
+    switch (random_below(random, 11)) {
+    case 0: entry->service = RANDOM_OF(random, 0, 3, 255); break;
+    case 1: entry->kind = RANDOM_OF(random, 0, 1, 2, 3, 4, 255); break;
+    case 2: entry->direction = RANDOM_OF(random, 0, 1, 2, 3, 255); break;
+    case 3: entry->state = RANDOM_OF(random, 0, 1, 2, 3, 255); break;
+    case 4: entry->spacecraft = RANDOM_OF(random, 1023, 1024, 65535); break;
+    case 5: entry->channel = RANDOM_OF(random, 7, 8, 63, 64, 255); break;
+    case 6: entry->map = RANDOM_OF(random, 0, 1, 63, 64, 255); break;
+    case 7: entry->window = RANDOM_OF(random, 0, 1, 1024, 1025, 65535); break;
+    case 8: entry->mask[5] = (uint8_t)RANDOM_OF(random, 0, 1, 128, 255); break;
+    case 9: entry->mark = RANDOM_OF(random, (1u << 26) - 1, 1u << 26, (1u << 26) + 1, UINT32_MAX); break;
+    default: entry->spi = RANDOM_OF(random, 0, 1, 65534, 65535); break;
+    }
+    write_image(&table, input->image);
+}
+
+/* An octet of the contents is changed by one: an SPI equal to its neighbour, a position beside its body. */
+static void strain_contents(struct random *random, struct input *input)
+{
+    uint32_t contents = 4u * input->image[1];
+    if (contents != 0 && contents + 2 <= input->image_length) {
+        input->image[2 + random_below(random, contents)] += (uint8_t)RANDOM_OF(random, 1, 255);
+    }
+}
+
+/* An image that would be right if 33 entries were allowed: every SPI rises, every position fits, every body is one that is allowed. */
+static void lay_out_33(struct input *input)
+{
+    enum { COUNT = 33, BODY = 52 };
+    uint8_t body[BODY];
+    if (input->image[1] == 0) {
+        return;
+    }
+    memcpy(body, input->image + 2 + 4 * input->image[1], BODY);
+    input->image[1] = COUNT;
+    for (unsigned i = 0; i < COUNT; i++) {
+        unsigned position = 2 + 4 * COUNT + BODY * i;
+        const uint8_t entry[] = {0, (uint8_t)(i + 1), (uint8_t)(position >> 8), (uint8_t)position};
+        memcpy(input->image + 2 + 4 * i, entry, sizeof entry);
+        memcpy(input->image + position, body, BODY);
+    }
+    input->image_length = 2 + 56 * COUNT;
+}
+
+static void break_image(struct random *random, struct input *input)
+{
+    switch (random_below(random, 8)) {
+    case 0:
+    case 1:
+        strain_field(random, input);
+        break;
+    case 2:
+        strain_contents(random, input);
+        break;
+    case 3:
+        flip_bit(random, input->image, input->image_length);
+        break;
+    case 4: /* too short, down to nothing */
+        input->image_length -= random_between(random, 1, (uint32_t)input->image_length);
+        break;
+    case 5: /* too long */
+        input->image_length += RANDOM_OF(random, 1, 4, 52, 56);
+        break;
+    case 6:
+        lay_out_33(input);
+        break;
+    default: /* version or count */
+        input->image[random_below(random, 2)] = (uint8_t)RANDOM_OF(random, 0, 1, 2, 31, 32, 33, 255);
+        break;
+    }
+}
+
+static void break_numbers(struct random *random, struct input *input)
+{
+    uint32_t count = input->image[1]; /* which may be broken already */
+    uint32_t index = random_below(random, random_percent(random, 80) && 1 <= count && count <= 32 ? count : 32);
+    switch (random_below(random, 4)) {
+    case 0:
+        input->numbers[index] += 64;
+        break;
+    case 1:
+        input->numbers[index] -= 64;
+        break;
+    case 2:
+        input->numbers[index] = (uint32_t)random_any(random);
+        break;
+    default:
+        input->numbers_length = RANDOM_OF(random, 0, 1, 31, 33, 40);
+        break;
+    }
+}
+
+static void set_frame_length(struct input *input, size_t length, bool fixes_field)
+{
+    input->frame_length = length;
+    if (fixes_field && input->kind != 3 && length >= 4 && length <= 1024) {
+        write_tc_length(input->frame, length);
+    }
+}
+
+/* Another length, around the limits of answers 3 and 5, with the TC length field put right or not. */
+static void change_length(struct random *random, struct input *input)
+{
+    size_t length = input->frame_length;
+    switch (random_below(random, 6)) {
+    case 0:
+        length = random_below(random, 12);
+        break;
+    case 1:
+        length = random_between(random, 22, 42);
+        break;
+    case 2:
+        length = length == 0 ? 0 : length - 1;
+        break;
+    case 3:
+        length = length + RANDOM_OF(random, 1, 4, 16);
+        break;
+    case 4:
+        length = RANDOM_OF(random, 1023, 1024, 1025, 2047, 2048, 2049, 2300);
+        break;
+    default:
+        length = random_below(random, (uint32_t)length + 1);
+        break;
+    }
+    if (length > input->frame_length) {
+        random_octets(random, input->frame + input->frame_length, length - input->frame_length);
+    }
+    set_frame_length(input, length, random_percent(random, 75));
+}
+
+/* The part from one place to another comes from a second frame of the same association. */
+static void splice(struct random *random, struct input *input, const uint8_t *other, size_t other_length)
+{
+    size_t shorter = input->frame_length < other_length ? input->frame_length : other_length;
+    size_t from = random_below(random, (uint32_t)shorter + 1);
+    size_t to = from + random_below(random, (uint32_t)(shorter - from) + 1);
+    switch (random_below(random, 3)) {
+    case 0: /* the front of one and the rest of the other */
+        memcpy(input->frame + from, other + from, other_length - from);
+        set_frame_length(input, other_length, random_percent(random, 50));
+        break;
+    case 1: /* a part in the middle */
+        memcpy(input->frame + from, other + from, to - from);
+        break;
+    default: /* the last 16 octets: another MAC, or a part of it and the OCF */
+        if (shorter >= 16) {
+            memcpy(input->frame + input->frame_length - 16, other + other_length - 16, 16);
+        }
+        break;
+    }
+}
+
+/* Random octets; some begin like a frame of their kind. */
+static void junk(struct random *random, struct input *input)
+{
+    size_t kept = random_percent(random, 60) ? random_below(random, 9) : 0;
+    size_t length = random_percent(random, 80) ? random_below(random, 120) : random_below(random, 2300);
+    if (length > kept) {
+        random_octets(random, input->frame + kept, length - kept);
+    }
+    set_frame_length(input, length, random_percent(random, 60));
+}
+
+static void break_frame(struct random *random, struct input *input, const uint8_t *other, size_t other_length)
+{
+    size_t length = input->frame_length;
+    switch (random_below(random, 8)) {
+    case 0:
+        flip_bit(random, input->frame, length);
+        break;
+    case 1: /* header and security header */
+        flip_bit(random, input->frame, length < 20 ? length : 20);
+        break;
+    case 2: /* MAC and OCF */
+        flip_bit(random, input->frame + (length < 20 ? 0 : length - 20), length < 20 ? length : 20);
+        break;
+    case 3:
+    case 4:
+        change_length(random, input);
+        break;
+    case 5:
+    case 6:
+        splice(random, input, other, other_length);
+        break;
+    default:
+        junk(random, input);
+        break;
+    }
+}
+
+/* What can be wrong beside the frame. */
+static void break_rest(struct random *random, struct input *input)
+{
+    if (random_percent(random, 4)) {
+        break_image(random, input);
+    }
+    if (random_percent(random, 4)) {
+        break_numbers(random, input);
+    }
+    if (random_percent(random, 4)) {
+        input->kind = (uint8_t)random_below(random, 256);
+    } else if (random_percent(random, 3)) {
+        input->kind = (uint8_t)random_between(random, 1, 3);
+    }
+}
+
+/* ---- running ---- */
+
+static void count_outcome(struct run *run, const struct input *input, const struct target *target, const struct outcome *outcome)
+{
+    unsigned kind = input->which == CALL_LOAD ? target->association.kind : input->kind;
+    unsigned service = target->is_held ? target->association.service : 0;
+    run->inputs++;
+    run->tally[input->which][kind <= 3 ? kind : 0][service][outcome->answer]++;
+    if (input->which == CALL_CHECK && outcome->answer == 0) {
+        run->stores[outcome->stores]++;
+    }
+}
+
+/* The SPI that a call goes by: the argument, or the frame's; 0 where a frame is too short to have one. */
+static unsigned spi_of(const struct input *input)
+{
+    size_t header = input->kind == 1 ? 5 : 6;
+    if (input->which == CALL_SECURE) {
+        return input->spi;
+    }
+    return input->frame_length < header + 2 ? 0 : input->frame[header] * 256u + input->frame[header + 1];
+}
+
+/* 'other projects' bodies change nothing': the same call on an image in which every other association is another one. */
+static void try_isolation(struct run *run, const struct input *before, const struct target *target, const struct outcome *outcome,
+                          const struct input *after)
+{
+    static struct input input;
+    if (outcome->answer == 1 || outcome->answer == 2 || !target->is_held || spi_of(before) != target->association.spi) {
+        return;
+    }
+    input = *before;
+    change_others(&run->random, &input, target->entry);
+    struct outcome other = both_run(&run->random, &input);
+    if (other.answer != outcome->answer || other.length != outcome->length || other.stores != outcome->stores
+        || memcmp(input.output, after->output, input.output_length) != 0
+        || input.numbers[target->entry] != after->numbers[target->entry]) {
+        both_fail("another association's body changed what came back");
+    }
+    run->isolations++;
+    run->inputs++;
+}
+
+/* The end keeps what a call leaves, except where the input was broken beyond it. */
+static struct outcome run_input(struct run *run, struct input *input, const struct target *target, struct end *end)
+{
+    bool is_own = input->image_length == end->image_length && memcmp(input->image, end->image, end->image_length) == 0
+        && input->numbers_length == NUMBER_COUNT && memcmp(input->numbers, end->numbers, sizeof end->numbers) == 0;
+    static struct input before;
+    before = *input;
+    struct outcome outcome = both_run(&run->random, input);
+    count_outcome(run, input, target, &outcome);
+    if (input->which != CALL_LOAD && random_percent(&run->random, 5)) {
+        try_isolation(run, &before, target, &outcome, input);
+    }
+    if (is_own) {
+        end_of_input(end, input);
+    }
+    return outcome;
+}
+
+static void try_load(struct run *run, struct end *end)
+{
+    static struct input input;
+    struct target target = any_target(run, end, 1);
+    input_of_end(&input, CALL_LOAD, end);
+    if (random_percent(&run->random, 50)) {
+        break_image(&run->random, &input);
+    }
+    if (random_percent(&run->random, 15)) {
+        break_numbers(&run->random, &input);
+    }
+    run_input(run, &input, &target, end);
+}
+
+/* Demand 2: what one end secures the other releases. Then the same frame again is a replay. */
+static void try_round_trip(struct run *run, const struct input *sent, const struct outcome *securing, const struct target *target,
+                           uint32_t number, struct end *other)
+{
+    static struct input input;
+    struct random *random = &run->random;
+    struct table table;
+    table_of(other, &table);
+    table.entries[target->entry].state = 2;
+    set_table(other, &table);
+    uint32_t window = table.entries[target->entry].window;
+    set_number(other, target->entry, number - random_between(random, 1, number < window ? number : window));
+
+    size_t header = target->association.kind == 1 ? 5 : 6;
+    size_t trailer = target->association.kind == 3 && (sent->frame[1] & 1) != 0 ? 4 : 0;
+    size_t data_length = sent->frame_length - header - trailer;
+    input_of_end(&input, CALL_CHECK, other);
+    input.kind = sent->kind;
+    input.frame_length = securing->length;
+    memcpy(input.frame, sent->output, securing->length);
+    any_output(random, &input, data_length);
+    if (input.output_length < data_length) {
+        input.output_length = data_length;
+    }
+    struct outcome checking = run_input(run, &input, target, other);
+    if (checking.answer != 0 || checking.length != data_length || memcmp(input.output, sent->frame + header, data_length) != 0) {
+        both_fail("what one end secured was not released at the other");
+    }
+    if (run_input(run, &input, target, other).answer != 8) {
+        both_fail("a frame was not refused the second time");
+    }
+    run->round_trips++;
+}
+
+static void make_sending(struct random *random, const struct association *association, struct input *input)
+{
+    uint8_t other_frame[FRAME_ROOM];
+    input->kind = (uint8_t)association->kind;
+    input->spi = (uint16_t)association->spi;
+    input->frame_length = make_clear_frame(random, association, any_data_length(random, association), input->frame);
+    if (random_percent(random, 25)) {
+        size_t other_length = make_clear_frame(random, association, any_data_length(random, association), other_frame);
+        break_frame(random, input, other_frame, other_length);
+    }
+    if (random_percent(random, 4)) {
+        input->spi = (uint16_t)RANDOM_OF(random, 0, 1, 65534, 65535, association->spi + 1, association->spi ^ 0x100);
+    }
+    any_output(random, input, input->frame_length + security_header_length(association->service) + MAC_LENGTH);
+}
+
+static void try_secure(struct run *run, struct world *world, size_t side)
+{
+    static struct input input;
+    struct random *random = &run->random;
+    struct end *end = &world->ends[side];
+    struct target target = any_target(run, end, 1);
+    const struct association *association = &target.association;
+
+    input_of_end(&input, CALL_SECURE, end);
+    make_sending(random, association, &input);
+    if (random_percent(random, 3) && target.is_held) { /* the last numbers there are */
+        set_number(end, target.entry, UINT32_MAX - random_below(random, 2));
+        memcpy(input.image, end->image, end->image_length);
+        memcpy(input.numbers, end->numbers, sizeof end->numbers);
+    }
+    break_rest(random, &input);
+
+    struct outcome outcome = run_input(run, &input, &target, end);
+    /* A broken input may have been secured too, perhaps under another entry; the reading has been compared, and that is all. */
+    bool is_targets = outcome.answer == 0 && input.kind == association->kind && input.spi == association->spi
+        && memcmp(input.image, end->image, end->image_length) == 0;
+    if (is_targets && random_percent(random, 50)) {
+        try_round_trip(run, &input, &outcome, &target, input.numbers[target.entry], &world->ends[1 - side]);
+    }
+}
+
+/* A sequence number on either side of every limit, with the last number accepted as it stands. */
+static void any_sequence(struct random *random, uint32_t last, unsigned window, uint8_t sequence[SEQUENCE_LENGTH])
+{
+    uint64_t number = (uint64_t)last + 1;
+    uint32_t chance = random_below(random, 100);
+    if (chance < 30) {
+        number = (uint64_t)last + random_between(random, 1, window);
+    } else if (chance < 42) {
+        number = (uint64_t)last + window;
+    } else if (chance < 50) {
+        number = (uint64_t)last + window + 1;
+    } else if (chance < 58) {
+        number = last;
+    } else if (chance < 66) {
+        number = last - random_below(random, last < 2000 ? last + 1 : 2000);
+    } else if (chance < 70) {
+        number = RANDOM_OF(random, 0, UINT32_MAX, UINT32_MAX - 1, (uint32_t)random_any(random));
+    } else if (chance < 74) {
+        number = 4294967296u + random_below(random, 200);
+    } else if (chance < 78) {
+        number = 4294967296u + last + 1; /* its last 4 octets are in the window */
+    }
+    sequence_of_number(number, sequence);
+    if (chance >= 97) {
+        sequence[random_below(random, 8)] ^= (uint8_t)RANDOM_OF(random, 1, 128, 255);
+    }
+}
+
+/* A secured frame made by the reading, with any number, and its length; 0 where no such clear frame can be secured. */
+static size_t make_secured_frame(struct run *run, const struct association *association, uint32_t last, uint8_t *secured)
+{
+    uint8_t clear[FRAME_ROOM];
+    uint8_t sequence[SEQUENCE_LENGTH];
+    struct header header;
+    size_t length = make_clear_frame(&run->random, association, any_data_length(&run->random, association), clear);
+    any_sequence(&run->random, last, association->window, sequence);
+    if (!read_clear_frame(association->kind, clear, length, &header)
+        || length + security_header_length(association->service) + MAC_LENGTH > header.largest) {
+        return 0;
+    }
+    return protect_frame(association, &header, sequence, clear, length, secured);
+}
+
+static void try_check(struct run *run, struct end *end)
+{
+    static struct input input;
+    uint8_t other_frame[FRAME_ROOM];
+    struct random *random = &run->random;
+    struct target target = any_target(run, end, 2);
+    struct association *association = &target.association;
+    if (!target.is_held) {
+        association->window = 1;
+    }
+    if (random_percent(random, 4) && target.is_held) { /* close to the last numbers there are */
+        set_number(end, target.entry, UINT32_MAX - random_below(random, 1100));
+    }
+    input_of_end(&input, CALL_CHECK, end);
+    input.kind = (uint8_t)association->kind;
+    uint32_t last = end->numbers[target.entry];
+    do {
+        input.frame_length = make_secured_frame(run, association, last, input.frame);
+    } while (input.frame_length == 0);
+    size_t added = (association->kind == 1 ? 5u : 6u) + security_header_length(association->service) + MAC_LENGTH;
+    if (random_percent(random, 30)) {
+        size_t other_length = make_secured_frame(run, association, last, other_frame);
+        break_frame(random, &input, other_frame, other_length);
+    }
+    if (association->kind == 3 && input.frame_length > 1) {
+        added += (input.frame[1] & 1) != 0 ? 4 : 0;
+    }
+    any_output(random, &input, input.frame_length > added ? input.frame_length - added : 1);
+    break_rest(random, &input);
+    run_input(run, &input, &target, end);
+}
+
+static void try_raise(struct run *run, const struct end *end)
+{
+    static struct input input;
+    struct random *random = &run->random;
+    struct target target = any_target(run, end, 2);
+    input_of_end(&input, CALL_LOAD, end);
+    if (random_percent(random, 20)) {
+        break_image(random, &input);
+    }
+    uint8_t entry = random_percent(random, 85) ? (uint8_t)target.entry : (uint8_t)random_below(random, 256);
+    uint32_t last = end->numbers[target.entry];
+    uint32_t number = last + random_between(random, 0, random_percent(random, 80) ? 1100 : 200000);
+    if (random_percent(random, 10)) {
+        number = (uint32_t)random_any(random);
+    }
+    uint32_t stores = random_percent(random, 80) ? random_below(random, 18) : random_below(random, 3000);
+    both_raise(random, input.image, input.image_length, entry, number, stores);
+    run->inputs++;
+    run->raises++;
+}
+
+static void run_world(struct run *run, uint64_t number)
+{
+    struct world world;
+    run->random = random_stream(run->options.seed, number);
+    make_world(&run->random, &world, any_count(&run->random));
+    for (unsigned call = 0; call < CALLS_PER_WORLD && run->inputs < run->options.count; call++) {
+        size_t side = random_below(&run->random, 2);
+        uint32_t chance = random_below(&run->random, 100);
+        both_at(run->options.seed, number, call);
+        if (chance < 8) {
+            try_load(run, &world.ends[side]);
+        } else if (chance < 16) {
+            try_raise(run, &world.ends[side]);
+        } else if (chance < 55) {
+            try_secure(run, &world, side);
+        } else {
+            try_check(run, &world.ends[side]);
+        }
+    }
+}
+
+/* ---- counting ---- */
+
+static bool is_empty(const uint64_t answers[ANSWERS])
+{
+    uint64_t sum = 0;
+    for (unsigned answer = 0; answer < ANSWERS; answer++) {
+        sum += answers[answer];
+    }
+    return sum == 0;
+}
+
+static void print_row(const char *call, const char *kind, const char *service, const uint64_t answers[ANSWERS])
+{
+    if (is_empty(answers)) {
+        return;
+    }
+    printf("%-6s %4s %7s", call, kind, service);
+    for (unsigned answer = 0; answer < ANSWERS; answer++) {
+        printf(" %8" PRIu64, answers[answer]);
+    }
+    putchar('\n');
+}
+
+static bool can_be_reached(unsigned which, unsigned answer)
+{
+    switch (which) {
+    case CALL_LOAD:
+        return answer <= 2;
+    case CALL_SECURE:
+        return answer <= 4 || answer == 6 || answer == 10 || answer == 11;
+    default:
+        return answer <= 8;
+    }
+}
+
+/* The answers that a row lacks or must not have. */
+static unsigned faults_of_row(unsigned which, const uint64_t answers[ANSWERS])
+{
+    unsigned faults = 0;
+    for (unsigned answer = 0; answer < ANSWERS; answer++) {
+        faults += (answers[answer] != 0) != can_be_reached(which, answer);
+    }
+    return faults;
+}
+
+static unsigned print_tally(const struct run *run)
+{
+    static const char *const calls[] = {"load", "secure", "check"};
+    static const char *const names[] = {"-", "1", "2", "3"};
+    unsigned faults = 0;
+    printf("%-6s %4s %7s", "call", "kind", "service");
+    for (unsigned answer = 0; answer < ANSWERS; answer++) {
+        printf(" %8u", answer);
+    }
+    putchar('\n');
+    for (unsigned which = 0; which < 3; which++) {
+        for (unsigned kind = 0; kind < 4; kind++) {
+            for (unsigned service = 0; service < 3; service++) {
+                bool is_whole = kind != 0 && service != 0;
+                print_row(calls[which], names[kind], names[service], run->tally[which][kind][service]);
+                faults += is_whole ? faults_of_row(which, run->tally[which][kind][service]) : 0;
+            }
+        }
+    }
+    printf("checks done, by their stores, 0 to %d:", MOST_STORES);
+    for (unsigned stores = 0; stores <= MOST_STORES; stores++) {
+        printf(" %" PRIu64, run->stores[stores]);
+        faults += run->stores[stores] == 0;
+    }
+    putchar('\n');
+    return faults;
+}
+
+int main(int argument_count, char **arguments)
+{
+    static struct run run;
+    run.options = options_of(argument_count, arguments, 200000);
+    both_prepare("differential");
+    uint64_t world = run.options.from;
+    while (run.inputs < run.options.count) {
+        run_world(&run, world++);
+    }
+    unsigned faults = print_tally(&run);
+    printf("differential: seed %" PRIu64 ", %" PRIu64 " inputs in %" PRIu64 " worlds, of them %" PRIu64 " cuts and %" PRIu64
+           " with every other association changed; %" PRIu64 " round trips; no difference\n",
+           run.options.seed, run.inputs, world - run.options.from, run.raises, run.isolations, run.round_trips);
+    if (faults != 0 && run.options.count >= ENOUGH_FOR_EVERY_ANSWER) {
+        printf("differential: %u of the counts above are 0 and should not be, or the other way round\n", faults);
+        return 1;
+    }
+    return 0;
+}

@@ -1,0 +1,102 @@
+/* Document 01, 'Frames': the two headers, bit after bit, and the rules of answer 3. */
+#include "reading.h"
+
+/* 'the first bit is the most significant' */
+struct bits {
+    const uint8_t *octets;
+    size_t next;
+};
+
+static unsigned take(struct bits *bits, unsigned width)
+{
+    unsigned value = 0;
+    for (unsigned i = 0; i < width; i++, bits->next++) {
+        unsigned octet = bits->octets[bits->next / 8];
+        unsigned bit = (octet >> (7 - bits->next % 8)) & 1u;
+        value = value * 2 + bit;
+    }
+    return value;
+}
+
+/* 'version 2 bits (0), bypass 1, control 1 (0 here), spare 2 (0), spacecraft 10, virtual channel 6, length 10 (all octets of the frame less
+ * one), frame sequence 8. With segment header: one octet more, flags 2 and MAP 6.' */
+static bool read_tc_header(bool has_segment_header, const uint8_t *frame, size_t length, struct header *header)
+{
+    struct bits bits = {frame, 0};
+    unsigned version = take(&bits, 2);
+    take(&bits, 1); /* bypass may hold anything */
+    unsigned control = take(&bits, 1);
+    unsigned spare = take(&bits, 2);
+    header->spacecraft = take(&bits, 10);
+    header->channel = take(&bits, 6);
+    unsigned length_field = take(&bits, 10);
+    take(&bits, 8); /* frame sequence may hold anything */
+    header->map = 0;
+    if (has_segment_header) {
+        take(&bits, 2); /* flags may hold anything */
+        header->map = take(&bits, 6);
+    }
+    header->trailer = 0;
+    return version == 0 && control == 0 && spare == 0 && length_field == length - 1;
+}
+
+/* 'version 2 (0), spacecraft 10, virtual channel 3, OCF flag 1, two counts of 8, data field status 16, whose first bit (secondary header)
+ * is 0' */
+static bool read_tm_header(const uint8_t *frame, struct header *header)
+{
+    struct bits bits = {frame, 0};
+    unsigned version = take(&bits, 2);
+    header->spacecraft = take(&bits, 10);
+    header->channel = take(&bits, 3);
+    unsigned ocf_flag = take(&bits, 1);
+    take(&bits, 8); /* the two counts */
+    take(&bits, 8);
+    unsigned secondary_header = take(&bits, 1);
+    header->map = 0;
+    header->trailer = ocf_flag == 1 ? 4 : 0;
+    return version == 0 && secondary_header == 0;
+}
+
+/* The header rules, the length field, and 'above largest'. A frame too short to hold its header is below every size that is asked for. */
+static bool read_header(unsigned kind, const uint8_t *frame, size_t length, struct header *header)
+{
+    switch (kind) {
+    case 1:
+        header->length = 5;
+        header->largest = 1024;
+        break;
+    case 2:
+        header->length = 6;
+        header->largest = 1024;
+        break;
+    case 3:
+        header->length = 6;
+        header->largest = 2048;
+        break;
+    default:
+        return false;
+    }
+    if (length < header->length || length > header->largest) {
+        return false;
+    }
+    return kind == 3 ? read_tm_header(frame, header) : read_tc_header(kind == 2, frame, length, header);
+}
+
+/* 'clear below h+1+f' */
+bool read_clear_frame(unsigned kind, const uint8_t *frame, size_t length, struct header *header)
+{
+    return read_header(kind, frame, length, header) && length >= header->length + 1 + header->trailer;
+}
+
+/* 'secured below h+2+f' */
+bool read_secured_frame(unsigned kind, const uint8_t *frame, size_t length, struct header *header)
+{
+    return read_header(kind, frame, length, header) && length >= header->length + 2 + header->trailer;
+}
+
+void write_tc_length(uint8_t *frame, size_t length)
+{
+    size_t field = length - 1;
+    frame[2] = (uint8_t)((frame[2] & 0xFC) | ((field >> 8) & 0x03));
+    frame[3] = (uint8_t)(field & 0xFF);
+}

@@ -1,0 +1,133 @@
+/* An independent reading of document 01, the module's scope paper, over OpenSSL's AES. Nothing here comes from the module's own code: it
+ * was written from the paper alone, so that a mistake in reading would have to be made twice.
+ *
+ * A call is read as a function: from what the caller lends (struct call) to what is to happen (struct effect). It changes nothing itself.
+ * Whoever wants the state afterwards carries the effect out; whoever wants a cut carries out the first j of its stores. */
+#ifndef READING_H
+#define READING_H
+
+#include <stdbool.h>
+#include <stddef.h>
+#include <stdint.h>
+
+enum {
+    MOST_ENTRIES = 32,      /* 'count k, 0 to 32' */
+    NUMBER_COUNT = 32,      /* 'There are 32' */
+    LARGEST_IMAGE = 1794,   /* 2 + 56 * 32 */
+    LARGEST_FRAME = 2048,   /* of any kind */
+    MASK_LENGTH = 6,
+    KEY_LENGTH = 32,
+    MAC_LENGTH = 16,
+    SEQUENCE_LENGTH = 12,   /* an IV's; a number of service 1 has the last 4 octets of it */
+    MOST_STORES = 16        /* 'at most 16 per call' */
+};
+
+/* 'The image': one entry of the contents and its body. */
+struct association {
+    unsigned spi;
+    unsigned service;
+    unsigned kind;
+    unsigned direction;
+    unsigned state;
+    unsigned spacecraft;
+    unsigned channel;
+    unsigned map;
+    unsigned window;
+    uint8_t mask[MASK_LENGTH];
+    uint8_t key[KEY_LENGTH];
+    uint32_t mark; /* as a number, not as its code */
+};
+
+struct table {
+    size_t count;
+    struct association entries[MOST_ENTRIES];
+};
+
+/* True where the image breaks no rule; the table then holds what it says. */
+bool read_image(const uint8_t *image, size_t length, struct table *table);
+
+/* The reverse: lays a table out, and gives the length of the image. Tests no rule, so that tests can break them. */
+size_t write_image(const struct table *table, uint8_t *image);
+
+/* The mark and its code: 'm exclusive-or half of m rounded down'. */
+uint32_t code_of_mark(uint32_t mark);
+uint32_t mark_of_code(uint32_t code);
+
+/* One octet stored in the image. */
+struct store {
+    size_t position;
+    uint8_t octet;
+};
+
+/* The store that raises a mark by one, in an image of this count, for this entry. */
+struct store store_of_raise(size_t count, size_t entry, uint32_t mark);
+
+/* 'Frames': what a header says, once it obeys its kind. */
+struct header {
+    size_t length;   /* h */
+    size_t trailer;  /* f */
+    size_t largest;
+    unsigned spacecraft;
+    unsigned channel;
+    unsigned map;
+};
+
+/* True where the frame obeys its kind as a clear frame, or as a secured one. */
+bool read_clear_frame(unsigned kind, const uint8_t *frame, size_t length, struct header *header);
+bool read_secured_frame(unsigned kind, const uint8_t *frame, size_t length, struct header *header);
+
+/* Writes the length field of a TC frame of this many octets. */
+void write_tc_length(uint8_t *frame, size_t length);
+
+/* The octets of the security header of a service. */
+size_t security_header_length(unsigned service);
+
+/* A number as the 12 octets of an IV. */
+void sequence_of_number(uint64_t number, uint8_t sequence[SEQUENCE_LENGTH]);
+
+/* The secured frame for a clear one that obeys its kind, with any sequence number, and its length. */
+size_t protect_frame(const struct association *association, const struct header *header, const uint8_t sequence[SEQUENCE_LENGTH],
+                     const uint8_t *clear, size_t clear_length, uint8_t *secured);
+
+/* What a caller lends. Of the output only the length counts: no call reads it. */
+struct call {
+    const uint8_t *image;
+    size_t image_length;
+    const uint32_t *numbers;
+    size_t numbers_length;
+    unsigned kind;
+    unsigned spi; /* securing only */
+    const uint8_t *frame;
+    size_t frame_length;
+    size_t output_length;
+};
+
+/* What is to happen. In a refusal only the answer is other than 0. */
+struct effect {
+    unsigned answer;
+    size_t length;                  /* the result fills the start of the output */
+    uint8_t result[LARGEST_FRAME];
+    size_t store_count;             /* the stores in the image, in order */
+    struct store stores[MOST_STORES];
+    bool gives_numbers;             /* a load: all 32 numbers */
+    uint32_t numbers[NUMBER_COUNT];
+    bool sets_number;               /* sending and checking: the number of one entry */
+    size_t entry;
+    uint32_t number;
+};
+
+void reading_load(const struct call *call, struct effect *effect);
+void reading_secure(const struct call *call, struct effect *effect);
+void reading_check(const struct call *call, struct effect *effect);
+
+/* Carries out the first j stores of an effect; j above their number makes them all. */
+void carry_out_stores(const struct effect *effect, size_t j, uint8_t *image);
+
+/* The public function of the cut, in place: the first 'stores' raises towards number/64. Gives how many were made. */
+uint32_t reading_raise(uint8_t *image, size_t length, unsigned entry, uint32_t number, uint32_t stores);
+
+/* 'The listing program': the text for an image, ended by a zero octet. */
+enum { LISTING_ROOM = 2048 };
+void listing_text(const uint8_t *image, size_t length, char text[LISTING_ROOM]);
+
+#endif

@@ -1,0 +1,143 @@
+/* How much stack each entry point takes. A call runs on a stack of its own that was filled with a pattern before; the octets below the
+ * caller's frame that are no longer the pattern are those that the call took. Every call is done once over each of two patterns, so that an
+ * octet that is written with the pattern itself does not count as unused. */
+#include "../include/xistalvo.h"
+#include "independent/reading.h"
+
+#include <stdio.h>
+#include <stdlib.h>
+#include <string.h>
+#include <ucontext.h>
+
+enum { ROOM = 1 << 16, MOST = 4096 }; /* the calls run on ROOM octets, and may take MOST */
+
+static uint8_t stack[ROOM] __attribute__((aligned(64)));
+static uintptr_t frame_of_caller;
+static ucontext_t here, there;
+
+/* What the calls are lent, and what they return. */
+static uint8_t images[2][LARGEST_IMAGE], clear[LARGEST_FRAME], secured[LARGEST_FRAME], opened[LARGEST_FRAME];
+static uint32_t numbers[2][NUMBER_COUNT];
+static size_t image_length, clear_length, secured_length;
+static uint8_t kind;
+static uint64_t result;
+
+static void call_load(void) { result = xistalvo_load(images[0], image_length, numbers[0], NUMBER_COUNT); }
+
+static void call_secure(void)
+{
+    result = xistalvo_secure(images[0], image_length, numbers[0], NUMBER_COUNT, kind, MOST_ENTRIES, clear, clear_length, secured,
+                             sizeof secured);
+}
+
+static void call_check(void)
+{
+    result = xistalvo_check(images[1], image_length, numbers[1], NUMBER_COUNT, kind, secured, secured_length, opened, sizeof opened);
+}
+
+static void call_raise(void)
+{
+    result = xistalvo_raise(images[0], image_length, MOST_ENTRIES - 1, 64 * 1000, 1000) == 1000 - 15 ? 0 : UINT64_MAX;
+}
+
+static void (*current_call)(void);
+
+static void run_call(void)
+{
+    frame_of_caller = (uintptr_t)__builtin_frame_address(0);
+    current_call();
+}
+
+static void run_on_own_stack(void)
+{
+    getcontext(&there);
+    there.uc_stack.ss_sp = stack;
+    there.uc_stack.ss_size = sizeof stack;
+    there.uc_link = &here;
+    makecontext(&there, run_call, 0);
+    swapcontext(&here, &there);
+}
+
+static size_t taken_over(int pattern, void (*call)(void))
+{
+    size_t unused = 0;
+    memset(stack, pattern, sizeof stack);
+    current_call = call;
+    run_on_own_stack();
+    while (unused < sizeof stack && stack[unused] == pattern) {
+        unused++;
+    }
+    if (result >> 40 != 0) {
+        fprintf(stderr, "stack: a call was refused by %u\n", XISTALVO_ANSWER(result));
+        exit(1);
+    }
+    return (size_t)(frame_of_caller - (uintptr_t)stack) - unused;
+}
+
+/* Two ends with 32 associations of one kind and service, of which the last is used; at the receiving end its mark is 15 lower. */
+static void make_ends(unsigned service)
+{
+    for (unsigned end = 0; end < 2; end++) {
+        struct table table = {.count = MOST_ENTRIES};
+        for (unsigned i = 0; i < MOST_ENTRIES; i++) {
+            table.entries[i] = (struct association){.spi = i + 1, .service = service, .kind = kind, .direction = end + 1, .state = 2,
+                                                    .spacecraft = 27, .channel = 5, .window = 1024, .key = {(uint8_t)i},
+                                                    .mark = end == 0 ? 15 : 0};
+        }
+        image_length = write_image(&table, images[end]);
+        if (XISTALVO_ANSWER(xistalvo_load(images[end], image_length, numbers[end], NUMBER_COUNT)) != 0) {
+            fprintf(stderr, "stack: an image was refused\n");
+            exit(1);
+        }
+    }
+}
+
+/* The largest clear frame that can be secured. A TM frame has an operational control field. */
+static void make_frame(unsigned service)
+{
+    static const uint8_t headers[3][6] = {{0x00, 0x1B, 0x14}, {0x00, 0x1B, 0x14}, {0x01, 0xBB}};
+    clear_length = (kind == 3 ? 2048 : 1024) - security_header_length(service) - MAC_LENGTH;
+    memset(clear, 0xAA, clear_length);
+    memcpy(clear, headers[kind - 1], 6);
+    if (kind != 3) {
+        write_tc_length(clear, clear_length);
+    }
+}
+
+static size_t larger(size_t a, size_t b) { return a > b ? a : b; }
+
+/* The most that a call takes with a frame of any kind. */
+static size_t taken_by(void (*call)(void), unsigned service)
+{
+    static const int patterns[] = {0x5A, 0xA5};
+    size_t most = 0;
+    for (kind = 1; kind <= 3; kind++) {
+        for (size_t i = 0; i < sizeof patterns / sizeof patterns[0]; i++) {
+            make_ends(service);
+            make_frame(service);
+            if (call == call_check) {
+                call_secure();
+                secured_length = XISTALVO_LENGTH(result);
+            }
+            most = larger(most, taken_over(patterns[i], call));
+        }
+    }
+    return most;
+}
+
+int main(void)
+{
+    static const struct {
+        const char *name;
+        void (*call)(void);
+    } calls[] = {{"load", call_load}, {"secure", call_secure}, {"check", call_check}, {"raise", call_raise}};
+    size_t most = 0;
+    printf("octets of stack  service 1  service 2\n");
+    for (size_t i = 0; i < sizeof calls / sizeof calls[0]; i++) {
+        size_t taken[] = {taken_by(calls[i].call, 1), taken_by(calls[i].call, 2)};
+        printf("%-15s %10zu %10zu\n", calls[i].name, taken[0], taken[1]);
+        most = larger(most, larger(taken[0], taken[1]));
+    }
+    printf("stack: at most %zu octets\n", most);
+    return most > MOST;
+}

@@ -1,0 +1,255 @@
+/* What the compiled module really writes, one instruction after another. Image and output are lent read-only; each write faults, is let
+ * through alone, and what it changed is noted. Document 01, 'Managed numbers' and 'What comes back', says what must then be seen:
+ *
+ *   after each write the image is the one after the first j stores, j only rising, and in the end after all of them;
+ *   the output is written only after that;
+ *   a refused call writes neither.
+ *
+ * So power may fail between any two instructions. A proof speaks of the language's machine; this speaks of what a compiler made of it, on the
+ * calls that are tried. It needs the trap flag of an x86-64 processor, and says so where it cannot run (another processor, valgrind).
+ *
+ *   stores [--seed S] [--count N] [--from W] */
+#include "support/both.h"
+#include "support/guarded.h"
+#include "support/options.h"
+#include "support/worlds.h"
+
+#include "../include/xistalvo.h"
+
+#include <inttypes.h>
+#include <stdio.h>
+#include <string.h>
+
+#if defined(__has_include)
+#if __has_include(<valgrind/valgrind.h>)
+#include <valgrind/valgrind.h>
+#endif
+#endif
+#ifndef RUNNING_ON_VALGRIND
+#define RUNNING_ON_VALGRIND 0
+#endif
+
+#if !defined(__x86_64__) || !defined(__linux__)
+
+int main(void)
+{
+    puts("stores: not run, it needs Linux on an x86-64 processor");
+    return 0;
+}
+
+#else
+
+#include <signal.h>
+#include <ucontext.h>
+
+enum { TRAP_FLAG = 0x100, MOST_STATES = 64, DATA_MOST = 60 };
+
+static struct guarded image_area, output_area;
+
+/* What was seen during one call. */
+static struct {
+    size_t writes;                                  /* into either */
+    size_t state_count;                             /* images that were seen, each different from the one before */
+    uint8_t states[MOST_STATES][LARGEST_IMAGE];
+    uint8_t output[FRAME_ROOM];                     /* after the last write */
+    bool output_has_begun;
+    bool store_came_late;                           /* the image changed after the output had begun */
+} seen;
+
+static void protect_both(enum lend_access access)
+{
+    guarded_protect(&image_area, access);
+    guarded_protect(&output_area, access);
+}
+
+static void note_image(void)
+{
+    if (memcmp(image_area.range, seen.states[seen.state_count - 1], image_area.length) == 0) {
+        return;
+    }
+    if (seen.state_count == MOST_STATES) {
+        both_fail("the image was changed more often than any call may");
+    }
+    memcpy(seen.states[seen.state_count++], image_area.range, image_area.length);
+    seen.store_came_late = seen.store_came_late || seen.output_has_begun;
+}
+
+static void note_output(void)
+{
+    if (memcmp(output_area.range, seen.output, output_area.length) != 0) {
+        seen.output_has_begun = true;
+        memcpy(seen.output, output_area.range, output_area.length);
+    }
+}
+
+static bool lies_in(const struct guarded *area, const uint8_t *address)
+{
+    return address >= area->range && address < area->range + area->length;
+}
+
+/* A write: let this one instruction through. */
+static void on_write(int signal_number, siginfo_t *information, void *context)
+{
+    (void)signal_number;
+    if (!lies_in(&image_area, information->si_addr) && !lies_in(&output_area, information->si_addr)) {
+        both_fail("the module touched memory that it was not lent");
+    }
+    seen.writes++;
+    protect_both(LEND_WRITABLE);
+    ((ucontext_t *)context)->uc_mcontext.gregs[REG_EFL] |= TRAP_FLAG;
+}
+
+/* The instruction is over. */
+static void on_step(int signal_number, siginfo_t *information, void *context)
+{
+    (void)signal_number;
+    (void)information;
+    ((ucontext_t *)context)->uc_mcontext.gregs[REG_EFL] &= ~(greg_t)TRAP_FLAG;
+    note_image();
+    note_output();
+    protect_both(LEND_READ_ONLY);
+}
+
+static void watch(void)
+{
+    struct sigaction action;
+    memset(&action, 0, sizeof action);
+    action.sa_flags = SA_SIGINFO;
+    action.sa_sigaction = on_write;
+    sigaction(SIGSEGV, &action, NULL);
+    action.sa_sigaction = on_step;
+    sigaction(SIGTRAP, &action, NULL);
+}
+
+static void call_watched(struct input *input)
+{
+    memset(&seen, 0, sizeof seen);
+    memcpy(seen.states[0], input->image, input->image_length);
+    seen.state_count = 1;
+    memcpy(seen.output, input->output, input->output_length);
+    guarded_lend(&image_area, input->image, input->image_length, LEND_AT_END, LEND_READ_ONLY);
+    guarded_lend(&output_area, input->output, input->output_length, LEND_AT_END, LEND_READ_ONLY);
+    if (input->which == CALL_SECURE) {
+        xistalvo_secure(image_area.range, input->image_length, input->numbers, NUMBER_COUNT, input->kind, input->spi, input->frame,
+                        input->frame_length, output_area.range, input->output_length);
+    } else {
+        xistalvo_check(image_area.range, input->image_length, input->numbers, NUMBER_COUNT, input->kind, input->frame,
+                       input->frame_length, output_area.range, input->output_length);
+    }
+    guarded_take_back(&image_area);
+    guarded_take_back(&output_area);
+}
+
+/* Each state seen is the image after the first j stores, with j rising to all. A compiler may join stores that nothing lies between; a cut
+ * then cannot fall between them, and no other image is seen. */
+static bool states_are_cuts(const struct input *before, const struct effect *effect)
+{
+    uint8_t image[LARGEST_IMAGE];
+    size_t state = 0;
+    memcpy(image, before->image, before->image_length);
+    for (size_t j = 0; j <= effect->store_count; j++) {
+        if (j != 0) {
+            image[effect->stores[j - 1].position] = effect->stores[j - 1].octet;
+        }
+        if (state < seen.state_count && memcmp(image, seen.states[state], before->image_length) == 0) {
+            state++;
+        }
+    }
+    return state == seen.state_count && memcmp(image, seen.states[seen.state_count - 1], before->image_length) == 0;
+}
+
+struct totals {
+    uint64_t calls, done, refused, stores, states;
+};
+
+static void judge(const struct input *before, const struct effect *effect, struct totals *totals)
+{
+    if (effect->answer != 0 && seen.writes != 0) {
+        both_fail("a refused call wrote into the image or the output");
+    }
+    if (!states_are_cuts(before, effect)) {
+        both_fail("between two instructions the image was not that of a cut");
+    }
+    if (seen.store_came_late) {
+        both_fail("the output was written before the last store in the image");
+    }
+    totals->calls++;
+    totals->done += effect->answer == 0;
+    totals->refused += effect->answer != 0;
+    totals->stores += effect->store_count;
+    totals->states += seen.state_count - 1;
+}
+
+static void read_document(const struct input *input, struct effect *effect)
+{
+    struct call call = {input->image, input->image_length, input->numbers, input->numbers_length, input->kind, input->spi,
+                        input->frame, input->frame_length, input->output_length};
+    if (input->which == CALL_SECURE) {
+        reading_secure(&call, effect);
+    } else {
+        reading_check(&call, effect);
+    }
+}
+
+/* A sending, or a check of a frame with a number up to just beyond the window; one in five frames has a wrong bit. */
+static void make_input(struct random *random, const struct end *end, struct input *input)
+{
+    struct table table;
+    struct header header;
+    uint8_t clear[FRAME_ROOM], sequence[SEQUENCE_LENGTH];
+    table_of(end, &table);
+    size_t entry = random_below(random, (uint32_t)table.count);
+    const struct association *association = &table.entries[entry];
+    input_of_end(input, association->direction == 1 ? CALL_SECURE : CALL_CHECK, end);
+    input->kind = (uint8_t)association->kind;
+    input->spi = (uint16_t)association->spi;
+    input->output_length = 2 * DATA_MOST;
+    input->frame_length = make_clear_frame(random, association, random_between(random, 1, DATA_MOST), input->frame);
+    if (input->which == CALL_CHECK && read_clear_frame(association->kind, input->frame, input->frame_length, &header)) {
+        memcpy(clear, input->frame, input->frame_length);
+        sequence_of_number((uint64_t)end->numbers[entry] + random_between(random, 1, association->window + 1), sequence);
+        input->frame_length = protect_frame(association, &header, sequence, clear, input->frame_length, input->frame);
+    }
+    if (random_percent(random, 20)) {
+        input->frame[random_below(random, (uint32_t)input->frame_length)] ^= 4;
+    }
+    random_octets(random, input->output, input->output_length);
+}
+
+static void try_one(struct options options, uint64_t number, struct totals *totals)
+{
+    static struct input input, before;
+    struct world world;
+    struct effect effect;
+    struct random random = random_stream(options.seed, number);
+    both_at(options.seed, number, 0);
+    make_world(&random, &world, random_between(&random, 1, 4));
+    make_input(&random, &world.ends[0], &input);
+    before = input;
+    read_document(&input, &effect);
+    call_watched(&input);
+    judge(&before, &effect, totals);
+}
+
+int main(int argument_count, char **arguments)
+{
+    struct totals totals = {0, 0, 0, 0, 0};
+    struct options options = options_of(argument_count, arguments, 2000);
+    if (RUNNING_ON_VALGRIND) {
+        puts("stores: not run, valgrind has no trap flag");
+        return 0;
+    }
+    both_prepare("stores");
+    image_area = guarded_new();
+    output_area = guarded_new();
+    watch();
+    for (uint64_t i = 0; i < options.count; i++) {
+        try_one(options, options.from + i, &totals);
+    }
+    printf("stores: seed %" PRIu64 ", %" PRIu64 " calls, %" PRIu64 " done and %" PRIu64 " refused; %" PRIu64 " stores, %" PRIu64
+           " of them seen singly; every image between two instructions was that of a cut, and no output came before the last store\n",
+           options.seed, totals.calls, totals.done, totals.refused, totals.stores, totals.states);
+    return 0;
+}
+
+#endif

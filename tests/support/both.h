@@ -1,0 +1,53 @@
+/* The module through its C interface, and the independent reading of document 01, on the same input. */
+#ifndef BOTH_H
+#define BOTH_H
+
+#include "../independent/reading.h"
+#include "random.h"
+
+enum { IMAGE_ROOM = 2048, NUMBER_ROOM = 48, FRAME_ROOM = 4096 };
+
+enum which_call { CALL_LOAD, CALL_SECURE, CALL_CHECK };
+
+/* All that a call is lent, and, after it, what the module left there. */
+struct input {
+    enum which_call which;
+    uint8_t image[IMAGE_ROOM];
+    size_t image_length;
+    uint32_t numbers[NUMBER_ROOM];
+    size_t numbers_length;
+    uint8_t kind;
+    uint16_t spi;
+    uint8_t frame[FRAME_ROOM];
+    size_t frame_length;
+    uint8_t output[FRAME_ROOM];
+    size_t output_length;
+};
+
+struct outcome {
+    unsigned answer;
+    size_t length;
+    unsigned stores;
+};
+
+/* To be called once, with the program's name for what it prints. */
+void both_prepare(const char *program);
+
+/* Where a run stands, for what is printed when something differs. */
+void both_at(uint64_t seed, uint64_t stream, uint64_t call);
+
+/* Switches the comparison with the reading off or on again; it starts switched on. Guards and refusals are looked at in any case. */
+void both_compare(bool is_on);
+
+/* Runs the module on the input and compares answer, length, stores, image, numbers and output with the reading; looks at every guard octet,
+ * and that a refused call changed nothing; and leaves in the input what the module left. Where anything is wrong it prints the input and ends
+ * the program with 1. */
+struct outcome both_run(struct random *random, struct input *input);
+
+/* The same for the cut; gives how many stores were made. */
+uint32_t both_raise(struct random *random, uint8_t *image, size_t image_length, uint8_t entry, uint32_t number, uint32_t stores);
+
+/* Ends the program with 1 and a sentence, and where the run stands. */
+void both_fail(const char *sentence);
+
+#endif

@@ -1,0 +1,45 @@
+/* Random associations, images and frames, with a liking for limits. */
+#ifndef WORLDS_H
+#define WORLDS_H
+
+#include "both.h"
+
+/* One end of a link: an image that breaks no rule, and numbers that agree with it. */
+struct end {
+    uint8_t image[LARGEST_IMAGE];
+    size_t image_length;
+    uint32_t numbers[NUMBER_COUNT];
+};
+
+/* Two ends with the same associations, direction 2 for 1; windows, states and marks are each end's own. */
+struct world {
+    struct end ends[2];
+};
+
+void make_world(struct random *random, struct world *world, size_t count);
+
+/* The table of an end's image. */
+void table_of(const struct end *end, struct table *table);
+
+/* Writes a table into an end. */
+void set_table(struct end *end, const struct table *table);
+
+/* Sets one entry's number, and its mark to agree. */
+void set_number(struct end *end, size_t entry, uint32_t number);
+
+/* Makes every association but one anew, with the same SPIs and with numbers that agree. The image breaks no rule, before and after. */
+void change_others(struct random *random, struct input *input, size_t kept);
+
+/* A clear frame that matches the association, with this many octets of data, and its length. */
+size_t make_clear_frame(struct random *random, const struct association *association, size_t data_length, uint8_t *frame);
+
+/* A number of data octets from 1, such that most secured frames are small and some are around the largest. */
+size_t any_data_length(struct random *random, const struct association *association);
+
+/* Sets the input's image and numbers to an end's. */
+void input_of_end(struct input *input, enum which_call which, const struct end *end);
+
+/* Keeps for the end what the module left in the input. */
+void end_of_input(struct end *end, const struct input *input);
+
+#endif
