@@ -12,8 +12,8 @@ use lib.Dec.{eqb, ltb}
 use lib.ListN.{length, take, set, length-set, List·getD-append}
 use lib.Seq.{getD-set-same, getD-set-other, getD-take, length-take-le}
 use Rattle.octets.specs.Lists.{octet}
-use Rattle.frame.specs.Fields.{tcSpacecraft, tcChannel}
-use Rattle.frame.specs.Kinds.{Kind, tc, segmentedTc, tm, noKind, kindIs, kindBehind, kindOf, named, tcRules, tcLengthOk, tcWithLength}
+use Rattle.frame.specs.Fields.{tcSpacecraft, tcChannel, segmentMap}
+use Rattle.frame.specs.Kinds.{Kind, telecommand, tc, segmentedTc, tm, noKind, kindIs, kindBehind, kindOf, named, tcRules, tcLengthOk, tcWithLength}
 use Rattle.frame.specs.Rules.{least, obeys}
 use Rattle.frame.specs.declared.kinds.Kind as code
 use Rattle.frame.specs.declared.kinds.Kind.the-variants as kind
@@ -120,41 +120,34 @@ module _ (h : ℕ) (n : ℕ) (frame rest : List ℕ) (five : 5 ≤ h) (fits : h 
     whole-channel : tcChannel whole ≡ tcChannel frame
     whole-channel = let a = third in omega arith
 
-tc-lawful : Lawful tc
-tc-lawful =
+-- a TC kind is lawful if rewriting the length keeps what it reads as MAP
+telecommand-lawful : (h most : ℕ) (map : List ℕ → ℕ) → 5 ≤ h
+    → ((n : ℕ) (frame rest : List ℕ) → h ≤ length frame → map (built (telecommand h map most) n frame rest) ≡ map frame)
+    → Lawful (telecommand h map most)
+telecommand-lawful h most map five same =
     record {
       long = tc-long;
       other = tc-other;
       sameHeader = λ n frame rest fits. refl;
       keeps = λ n frame rest ok fits count some small.
           record {
-            rules = whole-rules 5 n frame rest (omega arith) fits ok count some small;
-            lengthOk = whole-length 5 n frame rest (omega arith) fits ok count some small;
+            rules = whole-rules h n frame rest five fits ok count some small;
+            lengthOk = whole-length h n frame rest five fits ok count some small;
             header = refl;
             trailer = refl;
-            spacecraft = whole-spacecraft 5 n frame rest (omega arith) fits ok count some small;
-            channel = whole-channel 5 n frame rest (omega arith) fits ok count some small;
-            map = refl;
+            spacecraft = whole-spacecraft h n frame rest five fits ok count some small;
+            channel = whole-channel h n frame rest five fits ok count some small;
+            map = same n frame rest fits;
           };
     }
 
+tc-lawful : Lawful tc
+tc-lawful = telecommand-lawful 5 0 (λ frame. 0) (omega arith) (λ n frame rest fits. refl)
+
 segmented-lawful : Lawful segmentedTc
 segmented-lawful =
-    record {
-      long = tc-long;
-      other = tc-other;
-      sameHeader = λ n frame rest fits. refl;
-      keeps = λ n frame rest ok fits count some small.
-          record {
-            rules = whole-rules 6 n frame rest (omega arith) fits ok count some small;
-            lengthOk = whole-length 6 n frame rest (omega arith) fits ok count some small;
-            header = refl;
-            trailer = refl;
-            spacecraft = whole-spacecraft 6 n frame rest (omega arith) fits ok count some small;
-            channel = whole-channel 6 n frame rest (omega arith) fits ok count some small;
-            map = ap (λ (x : ℕ). x % 64) (same-octet 6 n frame rest (omega arith) fits 5 (omega arith) (omega arith) (omega arith));
-          };
-    }
+    telecommand-lawful 6 63 segmentMap (omega arith)
+    (λ n frame rest fits. ap (λ (x : ℕ). x % 64) (same-octet 6 n frame rest (omega arith) fits 5 (omega arith) (omega arith) (omega arith)))
 
 -- ---- TM
 

@@ -52,43 +52,31 @@ unfoldable pub tcWithLength : ℕ → List ℕ → List ℕ
 tcWithLength n s =
     cond (tcHoldsLength s) (set (set s 2 (tcChannel s * 4 + (n - 1) / 256 % 4)) 3 ((n - 1) % 256)) s
 
+-- what both TC kinds have, over the octets of the header, the MAP and the most that the image may ask of it
+abbrev pub telecommand : ℕ → (List ℕ → ℕ) → ℕ → Kind
+telecommand h map most =
+    record {
+      rules = tcRules;
+      header = λ frame. h;
+      trailer = λ frame. 0;
+      largest = 1024;
+      lengthOk = tcLengthOk;
+      holdsLength = tcHoldsLength;
+      withLength = tcWithLength;
+      spacecraft = tcSpacecraft;
+      channel = tcChannel;
+      map = map;
+      mostSpacecraft = 1023;
+      mostChannel = 63;
+      mostMap = most;
+    }
+
 abbrev pub tc : Kind
-tc =
-    record {
-      rules = tcRules;
-      header = λ frame. 5;
-      trailer = λ frame. 0;
-      largest = 1024;
-      lengthOk = tcLengthOk;
-      holdsLength = tcHoldsLength;
-      withLength = tcWithLength;
-      spacecraft = tcSpacecraft;
-      channel = tcChannel;
-      map = λ frame. 0;
-      mostSpacecraft = 1023;
-      mostChannel = 63;
-      mostMap = 0;
-    }
+tc = telecommand 5 (λ frame. 0) 0
 
--- ---- TC with a segment header: one octet more, which holds the MAP
-
+-- with a segment header: one octet more, which holds the MAP
 abbrev pub segmentedTc : Kind
-segmentedTc =
-    record {
-      rules = tcRules;
-      header = λ frame. 6;
-      trailer = λ frame. 0;
-      largest = 1024;
-      lengthOk = tcLengthOk;
-      holdsLength = tcHoldsLength;
-      withLength = tcWithLength;
-      spacecraft = tcSpacecraft;
-      channel = tcChannel;
-      map = segmentMap;
-      mostSpacecraft = 1023;
-      mostChannel = 63;
-      mostMap = 63;
-    }
+segmentedTc = telecommand 6 segmentMap 63
 
 -- ---- TM: version and secondary header flag are 0; there is no length field; OCF flag 1 means 4 octets behind the MAC
 

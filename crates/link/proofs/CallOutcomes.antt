@@ -13,9 +13,10 @@ use Rattle.association.specs.Numbers.{agrees}
 use Rattle.association.specs.Search.{entryFor}
 use Rattle.association.specs.declared.search.Found.the-variants as found
 use Rattle.link.specs.Answers.{first}
-use Rattle.link.specs.Calls.{refused, securingWants, securingReply, secured, securedUnder}
-use Rattle.link.specs.Calls.{checkingWants, comparison, checkingReply, checkedAs, checked, checkedUnder}
+use Rattle.link.specs.Calls.{refused, securingWants, securingReply, secured}
+use Rattle.link.specs.Calls.{checkingWants, comparison, checkingReply, checkedAs, checked}
 use Rattle.link.specs.Replies.{seen, securingTests, securing, checkingTests, checking}
+use Rattle.link.specs.Steps.{securedUnder, checkedUnder}
 
 module _ (image last : List ℕ) (kind spi : ℕ) (frame output : List ℕ) where
   pub secured-bad-image : validImage image ≡ false → secured image last kind spi frame output ≡ refused 1 image last output

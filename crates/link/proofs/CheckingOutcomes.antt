@@ -17,7 +17,8 @@ use Rattle.association.specs.declared.held.Held.{Held}
 use Rattle.link.specs.Answers.{first}
 use Rattle.link.specs.Calls.{Left, refused, left}
 use Rattle.link.specs.Protection.{securityLength, numberIn, clearData, clearLength}
-use Rattle.link.specs.Replies.{seeing, storesTo, checkingTests, checking}
+use Rattle.link.specs.Replies.{storesTo, checkingTests, checking}
+use Rattle.link.specs.Steps.{seeing}
 
 -- a frame that obeys its kind, the association that matches and how its comparison of the MAC falls out, and all that the call may change
 pub record Checking : Type 0 where

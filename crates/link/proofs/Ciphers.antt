@@ -20,7 +20,8 @@ use Rattle.gcm.specs.declared.Checked.{Checked}
 use Rattle.gcm.specs.declared.Checked.the-variants as verdict
 use Rattle.gcm.proofs.Laws.{text-limit, allowed, sealed-done, decrypted-done}
 use Rattle.association.specs.declared.held.Held.{Held}
-use Rattle.link.specs.Protection.{securityLength, textUnder, clearUnder, macUnder}
+use Rattle.link.specs.Protection.{securityLength}
+use Rattle.link.specs.Steps.{textUnder, clearUnder, macUnder}
 use Rattle.link.proofs.Chosen.{encrypts}
 
 -- what a verdict says of a MAC

@@ -17,7 +17,8 @@ use Rattle.association.specs.declared.held.Held.{Held}
 use Rattle.link.specs.Answers.{first}
 use Rattle.link.specs.Calls.{Left, refused, left}
 use Rattle.link.specs.Protection.{securityLength, securedLength, securedFrame}
-use Rattle.link.specs.Replies.{seeing, storesTo, securingTests, securing}
+use Rattle.link.specs.Replies.{storesTo, securingTests, securing}
+use Rattle.link.specs.Steps.{seeing}
 
 -- a frame that obeys its kind, the association that matches, and all that the call may change
 pub record Securing : Type 0 where

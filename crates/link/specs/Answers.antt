@@ -3,10 +3,8 @@
 use Prim.Native.Nat.{ℕ}
 use mathlib.Core.Bool.{Bool, cond}
 use mathlib.Core.List.{List, [], _∷_}
-use Rattle.association.specs.declared.numbers.Numbers.{Numbers}
 use Rattle.link.specs.declared.answers.Answer.{Answer}
 use Rattle.link.specs.declared.answers.Answer.the-variants as answer
-use Rattle.link.specs.declared.answers.Outcome.{Outcome}
 
 -- ---- the table: each answer's number, and what it reports of a result
 
@@ -32,10 +30,6 @@ reported answer.OutsideWindow = refusal 8
 reported answer.BadPadding = refusal 9
 reported answer.NumbersSpent = refusal 10
 reported answer.TooLong = refusal 11
-
--- an answer, and the numbers that come back with it
-abbrev pub outcome : Answer → Numbers → Outcome
-outcome a numbers = record { answer = a; numbers = numbers }
 
 -- ---- the first that applies is given and no other; where none applies, the answer is 0
 

@@ -7,7 +7,7 @@ use mathlib.Core.List.{List, [], _++_}
 use lib.Dec.{eqb}
 use lib.ListN.{length, set, take, drop}
 use Rattle.frame.specs.Kinds.{kindOf}
-use Rattle.association.specs.Association.{associationOf, heldIn, one, theOne, indexOf}
+use Rattle.association.specs.Association.{heldIn, theOne, indexOf}
 use Rattle.association.specs.Image.{validImage}
 use Rattle.association.specs.Numbers.{loadedNumbers}
 use Rattle.association.specs.Search.{entryFor}
@@ -15,7 +15,7 @@ use Rattle.association.specs.Stores.{afterStores}
 use Rattle.association.specs.declared.search.Wanted.{Wanted}
 use Rattle.link.specs.Answers.{reported}
 use Rattle.link.specs.Protection.{spiIn, macRight}
-use Rattle.link.specs.Replies.{seen, seeing, Reply, securing, checking}
+use Rattle.link.specs.Replies.{seen, Reply, securing, checking}
 use Rattle.link.specs.declared.answers.Outcome.{Outcome}
 
 -- ---- everything that a call leaves
@@ -109,11 +109,6 @@ unfoldable pub secured : List ℕ → List ℕ → ℕ → ℕ → List ℕ → 
 secured image last kind spi frame output =
     left (securingReply image last kind spi frame output) (securingEntry image kind spi frame) image last output
 
--- under an entry, once the image, its numbers and the search are past
-abbrev pub securedUnder : List ℕ → List ℕ → ℕ → ℕ → ℕ → List ℕ → List ℕ → Left
-securedUnder image last entry kind spi frame output =
-    left (securing (seeing (one (associationOf image last entry))) kind spi frame (length output)) entry image last output
-
 unfoldable pub securedCut : List ℕ → List ℕ → ℕ → ℕ → List ℕ → List ℕ → ℕ → List ℕ
 securedCut image last kind spi frame output j =
     cut (securingReply image last kind spi frame output) (securingEntry image kind spi frame) image j
@@ -144,12 +139,6 @@ checkedCutAs right image last kind frame output j =
 
 unfoldable pub checked : List ℕ → List ℕ → ℕ → List ℕ → List ℕ → Left
 checked image last kind frame output = checkedAs (comparison image last kind frame) image last kind frame output
-
--- under an entry, once the image, its numbers and the search are past
-abbrev pub checkedUnder : List ℕ → List ℕ → ℕ → ℕ → List ℕ → List ℕ → Left
-checkedUnder image last entry kind frame output =
-    let a = associationOf image last entry in
-    left (checking (seeing (one a)) (macRight (heldIn a) (kindOf kind) frame) kind frame (length output)) entry image last output
 
 unfoldable pub checkedCut : List ℕ → List ℕ → ℕ → List ℕ → List ℕ → ℕ → List ℕ
 checkedCut image last kind frame output j = checkedCutAs (comparison image last kind frame) image last kind frame output j

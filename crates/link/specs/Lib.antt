@@ -3,3 +3,4 @@ pub mod Calls
 pub mod Protection
 pub mod Replies
 pub mod Services
+pub mod Steps

@@ -1,7 +1,7 @@
 -- Document 01, 'Frames': what securing makes of a clear frame, and what checking reads from a secured one, under what an association holds:
 -- service, mask and key. The MAC covers the header (each octet ANDed with the mask), the security header and the data; not the OCF.
 -- Assumes nothing.
-use Prim.Native.Nat.{ℕ, _+_, _≤_}
+use Prim.Native.Nat.{ℕ, _+_}
 use mathlib.Core.Bool.{Bool}
 use mathlib.Core.List.{List, _++_}
 use lib.ListN.{length, drop}
@@ -29,17 +29,6 @@ fieldFor h n = bytes (serviceIn h .field) n
 abbrev pub numberFrom : Held → List ℕ → ℕ
 numberFrom h field = number (serviceIn h .field) field
 
--- ---- under a security header: the data as it goes out, the clear data that comes back, and the MAC
-
-abbrev pub textUnder : Held → List ℕ → List ℕ → List ℕ
-textUnder h security clear = serviceIn h .goingOut (h .key) (drop 2 security) clear
-
-abbrev pub clearUnder : Held → List ℕ → List ℕ → List ℕ
-clearUnder h security text = serviceIn h .comingIn (h .key) (drop 2 security) text
-
-abbrev pub macUnder : Held → List ℕ → List ℕ → List ℕ → List ℕ
-macUnder h security before text = serviceIn h .mac (h .key) (drop 2 security) before text
-
 -- ---- what the MAC covers before the data
 
 unfoldable pub coveredBefore : Held → List ℕ → List ℕ → List ℕ
@@ -65,10 +54,6 @@ securedFrame h k spi n clear =
     header ++ (security ++ (text ++ (mac ++ trailerOf k clear)))
 
 -- ---- checking: what a secured frame holds
-
--- it has room for its parts and one octet of data: answer 5 is past
-abbrev pub Parted : Held → Kind → List ℕ → Type 0
-Parted h k frame = k .header frame + securityLength h + 17 + k .trailer frame ≤ length frame
 
 -- the SPI stands first in the security header, whatever the service
 abbrev pub spiIn : Kind → List ℕ → ℕ

@@ -24,10 +24,6 @@ pub record Seen : Type 0 where
 unfoldable pub seen : List ℕ → List ℕ → Wanted → Seen
 seen image last w = record { valid = validImage image; agree = agrees image last; found = matching image last w }
 
--- where every rule holds and the numbers agree
-abbrev pub seeing : Match → Seen
-seeing found = record { valid = true; agree = true; found = found }
-
 -- the answer and, where it is 0: the number that is used, the octet stores that raise the mark to it, the length of the result, and the result
 pub record Reply : Type 0 where
   pub answer : ℕ

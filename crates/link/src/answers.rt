@@ -1,7 +1,7 @@
 // Document 01, 'What comes back'.
 use association::Numbers;
 ghost use mathlib.Core.Path.{_≡_};
-ghost use Rattle.link.specs.Answers.{outcome};
+ghost use Rattle.link.specs.Steps.{outcome};
 
 // One variant for each number of the paper's table. Done reports the length of the result and the count of stores.
 pub enum Answer {

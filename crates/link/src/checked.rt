@@ -16,7 +16,8 @@ ghost use Rattle.octets.specs.Lists.{part};
 ghost use Rattle.frame.specs.Kinds.{kindIs};
 ghost use Rattle.frame.specs.Parts.{securedParts};
 ghost use Rattle.gcm.specs.Output.{written};
-ghost use Rattle.link.specs.Protection.{securityLength, Parted, numberIn, macRight, clearData, clearLength};
+ghost use Rattle.link.specs.Protection.{securityLength, numberIn, macRight, clearData, clearLength};
+ghost use Rattle.link.specs.Steps.{Parted};
 
 // Where the parts end. They lie in the frame one behind the other.
 fn parts_of(kind: Kind, held: Held, frame: &[u8]) -> SecuredParts

@@ -27,7 +27,8 @@ ghost use Rattle.frame.specs.Kinds.{kindIs, kindOf};
 ghost use Rattle.frame.specs.Rules.{obeys};
 ghost use Rattle.association.specs.Image.{countOf, validImage};
 ghost use Rattle.association.specs.Numbers.{agrees};
-ghost use Rattle.link.specs.Calls.{leaving, checked, checkedUnder};
+ghost use Rattle.link.specs.Calls.{leaving, checked};
+ghost use Rattle.link.specs.Steps.{checkedUnder};
 
 // Checking under the entry that matches: what is left to test is 5, 6, 7 and 8. The MAC is judged before the window, and nothing is decrypted
 // before both are past.

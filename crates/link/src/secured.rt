@@ -16,7 +16,8 @@ ghost use lib.ListN.{length, take, drop};
 ghost use Rattle.frame.specs.Kinds.{kindIs};
 ghost use Rattle.frame.specs.Parts.{headerOf, securedLength};
 ghost use Rattle.gcm.specs.Output.{written};
-ghost use Rattle.link.specs.Protection.{securityLength, textUnder, macUnder, coveredIn, securedFrame};
+ghost use Rattle.link.specs.Protection.{securityLength, coveredIn, securedFrame};
+ghost use Rattle.link.specs.Steps.{textUnder, macUnder};
 
 // A frame's header, its length rewritten for a frame of so many octets, and a security header.
 fn write_headers(kind: Kind, size: usize, security: &[u8], frame: &[u8], output: &mut [u8])

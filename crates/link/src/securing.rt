@@ -22,7 +22,8 @@ ghost use Rattle.frame.specs.Kinds.{kindIs, kindOf};
 ghost use Rattle.frame.specs.Rules.{obeys};
 ghost use Rattle.association.specs.Image.{countOf, validImage};
 ghost use Rattle.association.specs.Numbers.{agrees};
-ghost use Rattle.link.specs.Calls.{leaving, secured, securedUnder};
+ghost use Rattle.link.specs.Calls.{leaving, secured};
+ghost use Rattle.link.specs.Steps.{securedUnder};
 
 const GREATEST: u32 = 4294967295;
 

@@ -7,7 +7,8 @@ ghost use Prim.Native.Nat.{_≤_};
 ghost use lib.ListN.{length};
 ghost use Rattle.octets.specs.Same.{same};
 ghost use Rattle.gcm.specs.Output.{written};
-ghost use Rattle.link.specs.Protection.{securityLength, textUnder, clearUnder, macUnder};
+ghost use Rattle.link.specs.Protection.{securityLength};
+ghost use Rattle.link.specs.Steps.{textUnder, clearUnder, macUnder};
 
 // The data as it goes out, to the front of `text`, and its MAC.
 pub(crate) fn protect(

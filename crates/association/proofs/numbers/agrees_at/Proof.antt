@@ -1,11 +1,11 @@
 -- `agrees_at` is right because a code is that of the number's mark exactly when it stands for that mark.
 -- Assumes nothing.
-use mathlib.Core.Path.{_≡_, ap, ap₂, _∙_}
+use mathlib.Core.Path.{_≡_, ap, _∙_}
 use Prim.Native.Nat.{ℕ, _/_, _^_, _<_}
 use native.Mathlib.Omega.{arith}
 use lib.Dec.{eqb}
 use Rattle.association.specs.Body.{codeOf}
-use Rattle.association.specs.Gray.{gray, ungray}
+use Rattle.association.specs.Gray.{ungray}
 use Rattle.association.specs.Image.{versionOf, bodyOf}
 use Rattle.association.specs.Numbers.{markIn}
 use Rattle.association.proofs.GrayCode.{same-mark}

@@ -9,7 +9,8 @@ use lib.Seq.{length-take-le}
 use Rattle.octets.specs.Same.{same}
 use Rattle.frame.specs.Kinds.{kindIs}
 use Rattle.frame.specs.Parts.{securityOf}
-use Rattle.link.specs.Protection.{macUnder, securityLength, fieldIn, coveredIn, textIn, macRight}
+use Rattle.link.specs.Protection.{securityLength, fieldIn, coveredIn, textIn, macRight}
+use Rattle.link.specs.Steps.{macUnder}
 use Rattle.link.proofs.Covering.{at-most-twenty, twenty, front}
 use Rattle.link.proofs.Reading.{security-lent, text-lent, mac-read}
 use borrow.Author.Needs.{needs}

@@ -14,7 +14,8 @@ use Rattle.frame.specs.Parts.{trailerOf, clearData, trailerStart}
 use Rattle.frame.specs.declared.parts.ClearParts.{ClearParts}
 use Rattle.frame.proofs.Kept.{lawful-kind}
 use Rattle.gcm.specs.Output.{written}
-use Rattle.link.specs.Protection.{serviceIn, securityLength, textUnder, securedLength, fieldFor}
+use Rattle.link.specs.Protection.{serviceIn, securityLength, securedLength, fieldFor}
+use Rattle.link.specs.Steps.{textUnder}
 use Rattle.link.proofs.Assembling as assembling
 use Rattle.link.proofs.Assembling.{Securing}
 use Rattle.link.proofs.Wire.{length-security, length-mac}

@@ -7,7 +7,8 @@ use native.Mathlib.Omega.{arith}
 use lib.ListN.{length, take, length-take, length-drop}
 use lib.Seq.{length-take-le}
 use Rattle.frame.specs.Kinds.{kindIs}
-use Rattle.link.specs.Protection.{textUnder, macUnder, securityLength, coveredIn}
+use Rattle.link.specs.Protection.{securityLength, coveredIn}
+use Rattle.link.specs.Steps.{textUnder, macUnder}
 use Rattle.link.proofs.Covering.{at-most-twenty, twenty, front}
 use Rattle.link.proofs.Writing.{lent-back}
 use borrow.Author.Needs.{needs}

@@ -2,7 +2,7 @@
 -- Assumes nothing.
 use mathlib.Core.Path.{_≡_, sym, ap, _∙_}
 use Rattle.octets.specs.Same.{same}
-use Rattle.link.specs.Protection.{macUnder}
+use Rattle.link.specs.Steps.{macUnder}
 use Rattle.link.proofs.Chosen.{signs}
 use Rattle.link.proofs.Ciphers.{rightly, judging}
 use borrow.Author.Needs.{needs}

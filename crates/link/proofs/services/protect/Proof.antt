@@ -3,7 +3,7 @@
 use mathlib.Core.Path.{ap, _∙_}
 use Rattle.gcm.specs.Calls.{Call}
 use Rattle.gcm.specs.declared.Sealed.{Sealed}
-use Rattle.link.specs.Protection.{textUnder, macUnder}
+use Rattle.link.specs.Steps.{textUnder, macUnder}
 use Rattle.link.proofs.Chosen.{signs}
 use Rattle.link.proofs.Ciphers.{sealing}
 use borrow.Author.Needs.{needs}

@@ -3,7 +3,7 @@
 use mathlib.Core.Path.{ap, _∙_}
 use Rattle.gcm.specs.Calls.{Call}
 use Rattle.gcm.specs.declared.Answer.{Answer}
-use Rattle.link.specs.Protection.{clearUnder}
+use Rattle.link.specs.Steps.{clearUnder}
 use Rattle.link.proofs.Chosen.{signs}
 use Rattle.link.proofs.Ciphers.{releasing}
 use borrow.Author.Needs.{needs}
