@@ -66,7 +66,8 @@ securing see kind spi frame room =
       result = securedFrame h (kindOf kind) spi n frame;
     }
 
--- ---- checking a secured frame; `right` is how the comparison of its MAC falls out
+-- ---- checking a secured frame; `right` is how the comparison of its MAC falls out. No security header of the base has a pad length, so no
+-- frame states fill, and 9 never applies
 
 unfoldable pub checkingTests : Seen → Bool → ℕ → List ℕ → ℕ → List Test
 checkingTests see right kind frame room =
