@@ -1,6 +1,5 @@
 /* The cases A to O of document 01 through the C interface, with the paper's own figures, and its slips. Each call is also compared with the
- * independent reading (support/both.h). First the reading itself is held to published vectors, so that its library is used rightly. */
-#include "independent/ciphers.h"
+ * independent reading (support/both.h). */
 #include "support/both.h"
 
 #include <stdio.h>
@@ -34,49 +33,6 @@ static bool starts_with(const uint8_t *octets, const char *hex)
 {
     uint8_t expected[FRAME_ROOM];
     return memcmp(octets, expected, octets_of(hex, expected)) == 0;
-}
-
-/* ---- published vectors, for the reading's ciphers ---- */
-
-/* NIST SP 800-38B, the examples for AES-256; lengths in octets. */
-static void try_cmac_vectors(void)
-{
-    static const struct {
-        size_t length;
-        const char *mac;
-    } vectors[] = {
-        {0, "028962f61b7bf89efc6b551f4667d983"},
-        {16, "28a7023f452e8f82bd4bf28d8c37c35c"},
-        {40, "aaf3d8f1de5640c232f5b169b9c911e6"},
-        {64, "e1992190549f6ed5696a2c056c315410"},
-    };
-    uint8_t key[KEY_LENGTH], message[64], mac[MAC_LENGTH];
-    octets_of("603deb1015ca71be2b73aef0857d77811f352c073b6108d72d9810a30914dff4", key);
-    octets_of("6bc1bee22e409f96e93d7e117393172aae2d8a571e03ac9c9eb76fac45af8e51"
-              "30c81c46a35ce411e5fbc1191a0a52eff69f2445df4f9b17ad2b417be66c3710", message);
-    for (size_t i = 0; i < sizeof vectors / sizeof vectors[0]; i++) {
-        cmac(key, message, vectors[i].length, mac);
-        expect(starts_with(mac, vectors[i].mac), "SP 800-38B", "a MAC of the reading differs from the published one");
-        passed++;
-    }
-}
-
-/* The GCM specification, test case 16. */
-static void try_gcm_vector(void)
-{
-    uint8_t key[KEY_LENGTH], iv[SEQUENCE_LENGTH], additional[20], plain[60], cipher[60], opened[60], tag[MAC_LENGTH];
-    octets_of("feffe9928665731c6d6a8f9467308308feffe9928665731c6d6a8f9467308308", key);
-    octets_of("cafebabefacedbaddecaf888", iv);
-    octets_of("feedfacedeadbeeffeedfacedeadbeefabaddad2", additional);
-    octets_of("d9313225f88406e5a55909c5aff5269a86a7a9531534f7da2e4c303d8a318a72"
-              "1c3c0c95956809532fcf0e2449a6b525b16aedf5aa0de657ba637b39", plain);
-    gcm_seal(key, iv, additional, sizeof additional, plain, sizeof plain, cipher, tag);
-    expect(starts_with(cipher, "522dc1f099567d07f47f37a32a84427d643a8cdcbfe5c0c97598a2bd2555d1aa"
-                               "8cb08e48590dbb3da7b08b1056828838c5f61e6393ba7a0abcc9f662"), "GCM", "the ciphertext differs");
-    expect(starts_with(tag, "76fc6ece0f4e1768cddf8853bb2d551b"), "GCM", "the tag differs");
-    expect(gcm_open(key, iv, additional, sizeof additional, cipher, sizeof cipher, tag, opened), "GCM", "the tag is not accepted");
-    expect(memcmp(plain, opened, sizeof plain) == 0, "GCM", "the text does not come back");
-    passed++;
 }
 
 /* ---- the association of case B, and what varies in the others ---- */
@@ -332,8 +288,6 @@ int main(void)
     const struct setting last_image = SEND(1, 1, LAST_MARK);
     test_random = random_stream(1, 0);
     both_prepare("cases");
-    try_cmac_vectors();
-    try_gcm_vector();
     try_case_a();
     try_case_b_layout();
     try_cases_c_and_d();

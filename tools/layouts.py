@@ -420,53 +420,88 @@ def packed_result():
 # ---- the crates
 
 
+def stands_on():
+    """What each crate stands on, of those that are in this repository, as crates.txt says."""
+    path = os.path.join(os.path.dirname(os.path.abspath(__file__)), "..", "crates.txt")
+    lines = [line.split("#")[0].strip() for line in open(path, encoding="utf-8")]
+    crates = dict(line.split(":") for line in lines if line)
+    return {name: {below for below in crates[name].split() if below in crates} for name in crates}
+
+
+def everything_below(name, arrows):
+    below = {b for a, b, _ in arrows if a == name}
+    return below.union(*(everything_below(b, arrows) for b in below))
+
+
 def layers():
     p = Picture("layers", "The crates: each stands on those that its arrows point to")
     p.text(24, 26, p.title, 16, "start", "bold")
     p.note(46, "An arrow that follows from others is left out.", 24)
-    high = 56
-    rows = [470, 370, 270, 170, 70]
+    high, pitch, most = 48, 76, 8
     boxes = {
-        "octets": (24, 0, 596, FIXED, "lists of octets, and their laws"),
-        "cipher": (24, 1, 256, MAC, "AES-256"),
-        "cmac": (24, 2, 118, MAC, "CMAC"),
-        "gcm": (162, 2, 118, MAC, "GCM"),
-        "frame": (310, 1, 310, NAMES, "kinds, headers, parts"),
-        "association": (310, 2, 310, NUMBER, "image, marks, numbers, search"),
-        "link": (24, 3, 396, DATA, "load, secure, check"),
-        "promises": (24, 4, 188, FREE, "theorems alone"),
-        "link_c": (232, 4, 188, FREE, "the C interface"),
-        "listing_text": (460, 3, 160, FREE, "the lines"),
-        "listing": (460, 4, 160, FREE, "the program"),
+        "octets": (24, 0, 686, FIXED, "lists of octets, numbers, copying, and their laws"),
+        "substitution": (24, 1, 112, MAC, "S-box"),
+        "block": (145, 1, 199, MAC, "a block as a number"),
+        "key_schedule": (24, 2, 112, MAC, "KeyExpansion"),
+        "ghash": (252, 2, 92, MAC, "GHASH"),
+        "cipher": (24, 3, 170, MAC, "AES-256"),
+        "cmac": (24, 4, 112, MAC, "CMAC"),
+        "gctr": (145, 4, 98, MAC, "counter mode"),
+        "gcm": (145, 5, 199, MAC, "GCM: seal, open"),
+        "headers": (372, 1, 130, NAMES, "TC and TM fields"),
+        "kinds": (372, 2, 180, NAMES, "a kind as a record"),
+        "frame": (372, 3, 130, NAMES, "parts, rules, mask"),
+        "marks": (566, 1, 144, NUMBER, "plans of stores"),
+        "bodies": (522, 3, 188, NUMBER, "layouts, fields, rules"),
+        "image": (522, 4, 188, NUMBER, "contents, the whole rule"),
+        "association": (522, 5, 188, NUMBER, "numbers, search, entries"),
+        "protection": (24, 6, 566, DATA, "services, security header, the secured frame"),
+        "link": (24, 7, 566, DATA, "load, secure, check: judged, then carried out"),
+        "promises": (24, 8, 270, FREE, "theorems alone"),
+        "link_c": (320, 8, 270, FREE, "the C interface"),
+        "listing_text": (606, 6, 104, FREE, "the lines"),
+        "listing": (606, 7, 104, FREE, "the program"),
     }
-
-    def top(name):
-        return rows[boxes[name][1]]
-
-    tall = rows[1] + high - rows[2] + 24
-    p.add(f'<rect x="12" y="{rows[2] - 12}" width="280" height="{tall}" fill="none" stroke="#8a1c12" stroke-dasharray="6 4"/>', 0)
-    for name, (x, row, width, fill, words) in boxes.items():
-        p.box(x, rows[row], width, high, fill, [name, words], sizes=(14, 12.5))
+    programs = {
+        "link_cases": (7, "runs link"),
+        "listing_cases": (6, "runs listing_text"),
+        "cipher_vectors": (5, "runs cipher, cmac, gcm"),
+        "cipher_bench": (4, "times cipher, cmac, gcm"),
+        "frame_cases": (3, "runs frame, kinds"),
+        "lines": (1, "lines of text for them"),
+    }
     arrows = [
-        ("promises", "link", 118), ("link_c", "link", 326), ("listing", "listing_text", 540), ("link", "cmac", 83), ("link", "gcm", 221),
-        ("link", "association", 365), ("listing_text", "association", 540), ("cmac", "cipher", 83), ("gcm", "cipher", 221),
-        ("association", "frame", 465), ("cipher", "octets", 152), ("frame", "octets", 465),
+        ("promises", "link", 159), ("link_c", "link", 455), ("listing", "listing_text", 658), ("link", "protection", 307),
+        ("protection", "cmac", 80), ("protection", "gcm", 244), ("protection", "frame", 437), ("protection", "association", 556),
+        ("listing_text", "association", 658), ("association", "image", 616), ("image", "bodies", 616), ("bodies", "kinds", 537),
+        ("bodies", "marks", 638), ("frame", "kinds", 437), ("kinds", "headers", 437), ("gcm", "gctr", 194), ("gcm", "ghash", 298),
+        ("gctr", "cipher", 170), ("gctr", "block", 219), ("ghash", "block", 298), ("cmac", "cipher", 80), ("cipher", "key_schedule", 80),
+        ("key_schedule", "substitution", 80), ("substitution", "octets", 80), ("block", "octets", 244), ("headers", "octets", 437),
+        ("marks", "octets", 638),
     ]
+    needed = stands_on()
+    assert set(needed) == set(boxes) | set(programs), "crates.txt has other crates"
+    for name in boxes:
+        assert needed[name] <= everything_below(name, arrows), f"an arrow is missing: {name}"
+        direct = {below for above, below, _ in arrows if above == name}
+        assert direct <= needed[name], f"an arrow too many: {name}"
+
+    def top(row):
+        return 64 + pitch * (most - row)
+
+    tall = top(1) + high - top(5) + 24
+    p.add(f'<rect x="12" y="{top(5) - 12}" width="344" height="{tall}" fill="none" stroke="#8a1c12" stroke-dasharray="6 4"/>', 0)
+    for name, (x, row, width, fill, words) in boxes.items():
+        p.box(x, top(row), width, high, fill, [name, words], sizes=(14, 12.5))
     for above, below, x in arrows:
-        p.arrow([(x, top(above) + high), (x, top(below) - 1)])
+        p.arrow([(x, top(boxes[above][1]) + high), (x, top(boxes[below][1]) - 1)])
     lab = "Dashed frame: with octets, what goes to the partner lab by itself. Nothing in it names a frame."
-    p.text(24, 556, lab, 12.5, "start", colour="#8a1c12")
-    p.text(668, 58, "Aside: programs that run them", 13, "start", "bold")
-    programs = [
-        (4, "listing_cases", "runs listing_text"),
-        (3, "link_cases", "runs link"),
-        (2, "cipher_vectors", "runs cipher, cmac, gcm"),
-        (1, "cipher_bench", "times cipher, cmac, gcm"),
-        (0, "frame_cases", "runs frame"),
-    ]
-    for row, name, words in programs:
-        p.box(668, rows[row], 268, high, FREE, [name, words], dashes="4 3", sizes=(14, 12.5))
-    p.line(644, 60, 644, 530, SOFT, 1, "2 4")
+    p.text(24, top(0) + high + 24, lab, 12.5, "start", colour="#8a1c12")
+    p.text(744, 58, "Aside: programs", 13, "start", "bold")
+    p.text(744, 76, "that run them", 13, "start", "bold")
+    for name, (row, words) in programs.items():
+        p.box(744, top(row), 192, high, FREE, [name, words], dashes="4 3", sizes=(14, 12.5))
+    p.line(727, 50, 727, top(0) + high, SOFT, 1, "2 4")
     return p
 
 

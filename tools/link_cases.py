@@ -46,9 +46,14 @@ class Entry:
         return b"".join(values[name] if name in ("mask", "key") else values[name].to_bytes(n, "big") for name, n in FIELDS.items())
 
 
-def image_of(*entries):
+def positions_of(k):
+    return [2 + 4 * k + 52 * i for i in range(k)]
+
+
+def image_of(*entries, positions=None):
     k = len(entries)
-    contents = b"".join(e.spi.to_bytes(2, "big") + (2 + 4 * k + 52 * i).to_bytes(2, "big") for i, e in enumerate(entries))
+    places = positions_of(k) if positions is None else positions
+    contents = b"".join(e.spi.to_bytes(2, "big") + place.to_bytes(2, "big") for e, place in zip(entries, places))
     return bytes([1, k]) + contents + b"".join(e.body() for e in entries)
 
 
@@ -533,19 +538,27 @@ def old_numbers(run):
 # 'What comes back': each refusal, and which of two is given
 
 
+SEGMENT = replace(B, kind=2, map=9, mask=b"\xff" * 6)
+TELEMETRY = replace(B, kind=3, mask=b"\xff" * 6)
+OUTSIDE = dict(service=(0, 3), kind=(0, 4), direction=(0, 3), state=(3,), spacecraft=(1024,), window=(0, 1025), code=(2**26, 2**31))
+
+
+def broken_entries():
+    """Entries with one field that is not allowed."""
+    yield from (replace(B, **{name: x}) for name, values in OUTSIDE.items() for x in values)
+    yield from (replace(B, channel=64), replace(TELEMETRY, channel=8), replace(SEGMENT, map=64))
+    yield from (replace(e, map=x) for e in (B, TELEMETRY) for x in (1, 32))
+    yield replace(B, mask=b"\xff" * 5 + b"\x01")
+
+
 def broken_images():
     good, other = image_of(B), replace(B, spi=10)
-    segment = replace(B, kind=2, mask=b"\xff" * 6)
-    telemetry = replace(B, kind=3, mask=b"\xff" * 6)
     yield from (b"", b"\x01", b"\x00\x00", b"\x02\x00", b"\x01\x00\x00", good[:-1], good + b"\x00", b"\x02" + good[1:])
     yield from (good[:5] + bytes([x]) + good[6:] for x in (5, 7))
     yield bytes([1, 33]) + image_of(*(replace(B, spi=i + 1) for i in range(33)))[2:]
     yield from (image_of(replace(B, spi=x)) for x in (0, 65535))
     yield from (image_of(B, B), image_of(other, B))
-    outside = dict(service=(0, 3), kind=(0, 4), direction=(0, 3), state=(3,), spacecraft=(1024,), window=(0, 1025), code=(2**26, 2**31))
-    yield from (image_of(replace(B, **{name: x})) for name, values in outside.items() for x in values)
-    yield from (image_of(replace(B, channel=64)), image_of(replace(telemetry, channel=8)), image_of(replace(segment, map=64)))
-    yield from (image_of(replace(B, map=1)), image_of(replace(telemetry, map=1)), image_of(replace(B, mask=b"\xff" * 5 + b"\x01")))
+    yield from (image_of(e) for e in broken_entries())
     yield image_of(replace(B, spi=8, service=3), B)
     yield image_of(B, replace(other, state=0, service=3))
 
@@ -581,6 +594,87 @@ def image_refusals(run):
         run.number(entry, n)
         run.secure(1, 9, C, 2)
         run.check(1, numbered(replace(B, spi=10), 64), 2)
+
+
+# Three entries: rules and tests are for each of them, and an entry is served whatever stands beside it
+
+UNKEYED = Entry(1, 2, 3, 2, 0, 1023, 7, 0, 1, b"\xff" * 6, b"\xff" * 32, 2**26 - 1)
+KEYED = Entry(1, 2, 2, 1, 1, 0, 63, 63, 1024, bytes(6), bytes(32), 5)
+
+
+def among(place, e, others):
+    """The entry as the first, the second or the last of three; SPIs are one apart."""
+    entries = [*others[:place], e, *others[place:]]
+    return [replace(x, spi=e.spi + i - place) for i, x in enumerate(entries)]
+
+
+def broken_threes():
+    """Images of three entries of which one breaks a rule."""
+    three = [replace(B, spi=9 + i) for i in range(3)]
+    for spis in ((9, 9, 10), (9, 10, 10), (9, 10, 9), (9, 11, 10), (10, 9, 11), (0, 9, 10), (65533, 65534, 65535)):
+        yield image_of(*(replace(B, spi=spi) for spi in spis))
+    right = positions_of(3)
+    for place in range(3):
+        for position in (right[place] - 1, right[place] + 1, right[place] + 256, right[place - 1], right[place] + 52):
+            yield image_of(*three, positions=[*right[:place], position, *right[place + 1 :]])
+    yield image_of(*three, positions=right[::-1])
+    for place in (1, 2):
+        yield from (image_of(*among(place, e, three[:2])) for e in broken_entries())
+
+
+def ask(run, e, answer, n=64):
+    """A frame of the association at its end: secured there, or checked with this number."""
+    address = dict(spacecraft=e.spacecraft, channel=e.channel)
+    segment = (3, e.map) if e.kind == 2 else None
+    frame = tm(b"data", **address) if e.kind == 3 else tc(HEADER[e.kind] + 4, b"data", segment=segment, **address)
+    if e.direction == 1:
+        run.secure(e.kind, e.spi, frame, answer)
+    else:
+        run.check(e.kind, secured_frame(e, e.kind, frame, n), answer)
+
+
+def three_entries(run):
+    run.case("1: three entries, of which one breaks a rule")
+    run.number(0, 63)
+    for image in broken_threes():
+        run.image(image)
+        run.load(1)
+    run.case("2: three entries, of which the number of one does not agree with its mark")
+    for entry in range(3):
+        run.fresh(B, replace(RECEIVING, spi=10), replace(B, spi=11, state=1))
+        run.number(entry, 127)
+        ask(run, B, 2)
+        ask(run, replace(RECEIVING, spi=10), 2)
+    run.case("three entries, of which one is operational; the others differ from it in all else, or in nothing else")
+    for e in (B, RECEIVING):
+        alike = [replace(e, state=0), replace(e, state=1)]
+        for others in ([UNKEYED, KEYED], [KEYED, UNKEYED], alike, alike[::-1]):
+            for place in range(3):
+                run.fresh(*among(place, e, others))
+                for i in range(3):
+                    ask(run, replace(e, spi=e.spi + i - place), 0 if i == place else 4)
+    run.case("three entries in operation: each is found by its SPI, and has a key, a mark and a number of its own")
+    for direction in (1, 2):
+        three = [replace(B, spi=9 + i, direction=direction, mark=m, key=bytes([m] * 32)) for i, m in enumerate((3, 0, 70))]
+        for order in (three, three[::-1]):
+            run.fresh(*three)
+            for e in order:
+                ask(run, e, 0, 64 * e.mark + 64)
+    for i, e in enumerate(three):
+        ask(run, replace(e, key=three[i - 1].key), 7, 64 * e.mark + 65)
+
+
+def identifier_bits(run):
+    for kind in (1, 2, 3):
+        here = replace(B, spi=0x1234, kind=kind, spacecraft=0x155, map=9 if kind == 2 else 0, mask=MASKS[kind])
+        widths = dict(spi=16, spacecraft=10, channel=3 if kind == 3 else 6, map=6 if kind == 2 else 0)
+        run.case("4: kind %d: a bit of the SPI or of an identifier differs" % kind)
+        for e in (here, replace(here, direction=2)):
+            run.fresh(*among(1, e, [UNKEYED, KEYED]))
+            for name, width in widths.items():
+                for bit in range(width):
+                    ask(run, replace(e, **{name: vars(e)[name] ^ 1 << bit}), 4)
+            ask(run, e, 0)
 
 
 def frame_refusals(run):
@@ -704,8 +798,10 @@ def main():
     slips(run, rng)
     old_numbers(run)
     image_refusals(run)
+    three_entries(run)
     frame_refusals(run)
     entry_refusals(run)
+    identifier_bits(run)
     orders(run)
     sends_in_a_row(run)
     longest(run)

@@ -92,6 +92,19 @@ def listing(data):
 
 # ---- the cases
 
+# A field that is not allowed, in an entry that is right but for it.
+OUTSIDE = [("service", 0), ("service", 3), ("kind", 0), ("kind", 4), ("direction", 0), ("direction", 3), ("state", 3)]
+OUTSIDE += [("spacecraft", 1024), ("channel", 64), ("map", 1), ("window", 0), ("window", 1025), ("mask", 1), ("code", 2**26)]
+
+# The bits that are 0 in every entry of a kind that keeps the rules: the field, the lowest of them, and how many there are.
+NO_BITS = [(1, "service", 2, 6), (1, "kind", 2, 6), (1, "direction", 2, 6), (1, "state", 2, 6), (1, "spacecraft", 10, 6)]
+NO_BITS += [(1, "window", 11, 5), (1, "mask", 0, 8), (1, "code", 26, 6), (1, "channel", 6, 2), (2, "channel", 6, 2), (3, "channel", 3, 5)]
+NO_BITS += [(1, "map", 0, 8), (2, "map", 6, 2), (3, "map", 0, 8)]
+
+
+def three(*changes):
+    return [entry(spi=9 + i, **change) for i, change in enumerate(changes)]
+
 
 def wholes():
     """Images that keep the rules: the paper's cases, none and all of 32 entries, and the values at each end."""
@@ -117,8 +130,21 @@ def wholes():
             for i in range(32)
         ]
     )
+    for states in ((0, 2, 1), (2, 0, 1), (0, 1, 2), (1, 0, 0)):
+        yield "three entries, in states %d, %d and %d" % states, image(three(*(dict(state=state) for state in states)))
     yield "kind 2 at its limits", image([entry(kind=2, channel=63, map=63, mask=2**48 - 1)])
     yield "kind 1 at its limits", image([entry(channel=63, spacecraft=1023, mask=0xFFFFFFFFFF00)])
+
+
+def broken_threes():
+    """Three entries, of which the contents break a rule."""
+    for spis in ((9, 9, 10), (9, 10, 10), (9, 10, 9), (9, 11, 10), (10, 9, 11), (0, 9, 10), (65533, 65534, 65535)):
+        yield "spis %d, %d and %d" % spis, image([entry(spi=spi) for spi in spis])
+    right = [14, 66, 118]
+    for place in range(3):
+        for position in (right[place] - 1, right[place] + 1, right[place] + 256, right[place - 1]):
+            positions = [position if i == place else right[i] for i in range(3)]
+            yield "positions %d, %d and %d" % tuple(positions), image(three({}, {}, {}), positions=positions)
 
 
 def broken():
@@ -144,15 +170,20 @@ def broken():
     yield "position one less", image([entry()], positions=[5])
     yield "position one more", image([entry()], positions=[7])
     yield "positions exchanged", image([entry(spi=1), entry(spi=2)], positions=[62, 10])
-    for name, value in [
-        *[("service", 0), ("service", 3), ("kind", 0), ("kind", 4), ("direction", 0), ("direction", 3), ("state", 3)],
-        *[("spacecraft", 1024), ("channel", 64), ("map", 1), ("window", 0), ("window", 1025), ("mask", 1)],
-    ]:
+    yield from broken_threes()
+    for name, value in OUTSIDE:
         yield "%s %s" % (name, format(value, ",")), image([entry(**{name: value})])
-    yield "kind 2, map 64", image([entry(kind=2, map=64)])
+        for place in (1, 2):
+            changes = [{}, {}, {}]
+            changes[place] = {name: value}
+            yield "%s %s in entry %d of three" % (name, format(value, ","), place), image(three(*changes))
+    for kind, name, lowest, count in NO_BITS:
+        for bit in range(lowest, lowest + count):
+            changed = entry(kind=kind)
+            changed[name] |= 1 << bit
+            yield "kind %d, bit %d of the %s" % (kind, bit, name), image([changed])
     yield "kind 2, channel 64", image([entry(kind=2, channel=64)])
     yield "kind 3, channel 8", image([entry(kind=3, channel=8)])
-    yield "kind 3, map 1", image([entry(kind=3, map=1)])
     yield "mark 2^26", image([entry(code=gray(2**26))])
     yield "mark 2^32 - 1", image([entry(code=gray(2**32 - 1))])
     yield "a broken body behind 31 good ones", image(full[:31] + [entry(spi=32, window=0)])

@@ -7,7 +7,8 @@ FOLDER has the files as they were published: ECB*256.rsp and gcmEncryptExtIV256.
 latter the entries with an IV of 96 bits and a tag of 128), and the AES-256 examples of SP 800-38B. Each gives a file with
 a line for a vector, in hex, in the order of the publication:
 
-  ECB*256.txt              KEY BLOCK RESULT      the [ENCRYPT] section; a line for each block of a message
+  ECB*256.txt              KEY BLOCK RESULT      a line for each block of a message; the [ENCRYPT] section, then what the [DECRYPT]
+                                                 section, read backwards, has besides
   SP80038B.txt             KEY MESSAGE MAC
   gcmEncryptExtIV256.txt   KEY IV PLAINTEXT ADDITIONAL CIPHERTEXT TAG
 
@@ -53,8 +54,10 @@ def main():
         return (pathlib.Path(sys.argv[1]) / name).read_text().replace("\r\n", "\n") + "\n"
 
     for name in ECB:
-        section = read(f"{name}.rsp").split("[ENCRYPT]")[1].split("[DECRYPT]")[0]
-        write(name, [line for record in records(section, ["KEY", "PLAINTEXT", "CIPHERTEXT"]) for line in blocks(record)])
+        encrypt, decrypt = read(f"{name}.rsp").split("[ENCRYPT]")[1].split("[DECRYPT]")
+        messages = records(encrypt, ["KEY", "PLAINTEXT", "CIPHERTEXT"])
+        messages += [(key, plain, secret) for key, secret, plain in records(decrypt, ["KEY", "CIPHERTEXT", "PLAINTEXT"])]
+        write(name, [line for message in dict.fromkeys(messages) for line in blocks(message)])
     write("SP80038B", records(read("nist-800-38b-aes256.txt"), ["KEY", "MESSAGE", "OUTPUT"]))
     write("gcmEncryptExtIV256", records(read("gcmEncryptExtIV256-iv96-tag128.rsp"), ["Key", "IV", "PT", "AAD", "CT", "Tag"]))
 

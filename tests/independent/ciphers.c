@@ -1,5 +1,9 @@
+/* The expanded key is shown by no function of today's interface, so that of 1.1 is asked for. */
+#define OPENSSL_API_COMPAT 0x10100000L
+
 #include "ciphers.h"
 
+#include <openssl/aes.h>
 #include <openssl/core_names.h>
 #include <openssl/evp.h>
 #include <openssl/params.h>
@@ -37,6 +41,30 @@ static EVP_CIPHER_CTX *cipher_context(void)
         need(context != NULL);
     }
     return context;
+}
+
+/* By the engine that it was built with, OpenSSL holds a word in the standard's order of octets or in the machine's. The first word is the
+ * key's own, and tells which. */
+void expand_key(const uint8_t key[32], uint8_t words[60][4])
+{
+    AES_KEY expanded;
+    need(AES_set_encrypt_key(key, 256, &expanded) == 0 && expanded.rounds == 14 && sizeof expanded.rd_key >= 240);
+    memcpy(words, expanded.rd_key, 240);
+    bool is_turned = memcmp(words[0], key, 4) != 0;
+    for (size_t i = 0; is_turned && i < 60; i++) {
+        uint8_t word[] = {words[i][3], words[i][2], words[i][1], words[i][0]};
+        memcpy(words[i], word, sizeof word);
+    }
+    need(memcmp(words, key, 32) == 0);
+}
+
+void encrypt_block(const uint8_t key[32], const uint8_t block[16], uint8_t result[16])
+{
+    EVP_CIPHER_CTX *context = cipher_context();
+    int written = 0;
+    need(EVP_EncryptInit_ex(context, EVP_aes_256_ecb(), NULL, key, NULL) == 1);
+    need(EVP_CIPHER_CTX_set_padding(context, 0) == 1);
+    need(EVP_EncryptUpdate(context, result, &written, block, 16) == 1 && written == 16);
 }
 
 void cmac(const uint8_t key[32], const uint8_t *message, size_t length, uint8_t mac[16])

@@ -3,8 +3,8 @@
 -- Assumes nothing.
 use mathlib.Core.Path.{_≡_, refl, sym, ap, _∙_}
 use mathlib.Core.Logic.{_≢_}
-use mathlib.Core.Bool.{Bool, true, false, _&&_}
-use mathlib.Core.List.{List}
+use mathlib.Core.Bool.{Bool, true, false, cond, _&&_}
+use mathlib.Core.List.{List, []}
 use Prim.Native.Nat.{ℕ, _+_, _-_, _/_, _^_, _≤_, _<_, min}
 use native.Mathlib.Omega.{arith}
 use borrow.Author.Tests.{lt-ltb}
@@ -14,17 +14,22 @@ use lib.Seq.{take-all, take-nil}
 use Rattle.octets.specs.Lists.{octet, Octets}
 use Rattle.octets.specs.Numbers.{numberAt}
 use Rattle.octets.proofs.Numbers.{numberAt-lt}
-use Rattle.association.specs.Gray.{gray, ungray}
-use Rattle.association.specs.Image.{versionOf, countOf, spiOf, positionOf, bodyOf, laidOut, validImage}
-use Rattle.association.specs.Numbers.{greatest, numberOf, markIn, loadedNumbers}
-use Rattle.association.specs.Stores.{raises, markAt, storesFor, stored, storesMade, afterStores}
-use Rattle.association.proofs.GrayCode.{ungray-gray, gray-ungray, ungray-lt}
-use Rattle.association.proofs.ValidImages.{laid-out, valid, valid-laid, mark-small}
-use Rattle.association.proofs.Places.{Outside, mark-at, mark-inside}
-use Rattle.association.proofs.RaisedMarks.{Marked, raises-octets, raises-outside, raises-marked}
-use Rattle.association.proofs.RaisedMarks.{length-stored, length-raises, take-raises}
-use Rattle.association.proofs.KeptParts.{SameFields, MarkOnly, kept-version, kept-count, kept-spi, kept-position, kept-mark-place}
-use Rattle.association.proofs.KeptParts.{kept-body, kept-fields, kept-mark, kept-valid}
+use Rattle.marks.specs.Gray.{codeLength, gray, ungray}
+use Rattle.marks.specs.Stores.{storesIn, storeAt, storesOf, firstStores, steps, stored}
+use Rattle.marks.specs.declared.plans.Plan.{Plan}
+use Rattle.marks.specs.declared.plans.Plan.the-variants as plan
+use Rattle.marks.proofs.GrayCode.{ungray-gray, gray-ungray, ungray-lt}
+use Rattle.marks.proofs.Made.{Inside, length-steps, take-steps, length-stored, plan-changed}
+use Rattle.octets.proofs.Outside.{Outside, Changed}
+use Rattle.marks.proofs.RaisedMarks.{Marked, raises, store-inside, raises-octets, raises-marked}
+use Rattle.image.specs.Image.{versionOf, countOf, spiOf, positionOf, bodyOf, keyOf, markAt, markIn, laidOut, validImage}
+use Rattle.bodies.proofs.SameFields.{SameFields}
+use Rattle.image.proofs.KeptParts.{kept-version, kept-count, kept-spi, kept-position, kept-mark-place, kept-body, kept-mark}
+use Rattle.image.proofs.KeptParts.{mark-within, kept-fields, kept-key, kept-valid}
+use Rattle.image.proofs.Places.{mark-at, mark-inside}
+use Rattle.image.proofs.ValidImages.{laid-out, valid, valid-laid, mark-small}
+use Rattle.association.specs.Numbers.{greatest, numberOf, loadedNumbers}
+use Rattle.association.specs.Stores.{planFor, storesMade, afterStores}
 use Rattle.association.proofs.LoadedNumbers.{mark-fits, loaded-same}
 
 -- ---- the stores of an entry that the image has, and of one that it does not have
@@ -37,14 +42,23 @@ pub has-entry : (image : List ℕ) (i : ℕ) → laidOut image ≡ true → i < 
 has-entry image i e h = rw (e, lt-ltb i (countOf image) h)
 
 module _ (image : List ℕ) (i n j : ℕ) where
-  -- how many of the first j stores there are
+  -- the first j stores: how many there are, and what they make
+  some : hasEntry image i ≡ true
+      → firstStores (planFor image i n) j ≡ raises (markAt image i) (markIn image i) (min j (n / 64 - markIn image i))
+  unfolding planFor
+  some e = simp e (take-steps _ j (n / 64 - markIn image i))
+
+  none : hasEntry image i ≡ false → firstStores (planFor image i n) j ≡ take j []
+  unfolding planFor steps
+  none e = simp e
+
   pub made-some : hasEntry image i ≡ true → storesMade image i n j ≡ min j (n / 64 - markIn image i)
-  unfolding storesMade storesFor
-  made-some e = simp (e, take-raises, length-raises)
+  unfolding storesMade
+  made-some e = rw (some e) (length-steps _ (min j (n / 64 - markIn image i)))
 
   pub made-none : hasEntry image i ≡ false → storesMade image i n j ≡ 0
-  unfolding storesMade storesFor
-  made-none e = simp (e, take-nil)
+  unfolding storesMade
+  made-none e = rw (none e, take-nil)
 
   -- all of them, where j is enough
   pub made-all : hasEntry image i ≡ true → n / 64 - markIn image i ≤ j → storesMade image i n j ≡ n / 64 - markIn image i
@@ -55,59 +69,58 @@ module _ (image : List ℕ) (i n j : ℕ) where
   -- the image after them
   pub after-some : hasEntry image i ≡ true
       → afterStores image i n j ≡ stored image (raises (markAt image i) (markIn image i) (min j (n / 64 - markIn image i)))
-  unfolding afterStores storesFor
-  after-some e = simp (e, take-raises)
+  unfolding afterStores
+  after-some e = ap (stored image) (some e)
 
   pub after-none : hasEntry image i ≡ false → afterStores image i n j ≡ image
-  unfolding afterStores storesFor stored
-  after-none e = simp (e, take-nil)
+  unfolding afterStores stored
+  after-none e = rw (none e, take-nil)
 
   -- j at least their number: the image after all of them
-  pub after-all : length (storesFor image i n) ≤ j → afterStores image i n j ≡ stored image (storesFor image i n)
+  pub after-all : length (storesOf (planFor image i n)) ≤ j → afterStores image i n j ≡ stored image (storesOf (planFor image i n))
   unfolding afterStores
-  after-all h = ap (stored image) (take-all j (storesFor image i n) h)
+  after-all h = ap (stored image) (take-all j (storesOf (planFor image i n)) h)
 
   -- ---- what holds of every image: its length, its octets, and all that stands outside the mark
 
   -- as long as before
   pub after-length : length (afterStores image i n j) ≡ length image
   unfolding afterStores
-  after-length = length-stored image (take j (storesFor image i n))
+  after-length = length-stored image (firstStores (planFor image i n) j)
 
   -- of octets, if it was
   pub after-octets : Octets image → Octets (afterStores image i n j)
   after-octets h = by-entry (hasEntry image i) refl
     where
       by-entry : (t : Bool) → hasEntry image i ≡ t → Octets (afterStores image i n j)
-      by-entry true e = rw (after-some e) (raises-octets (min j (n / 64 - markIn image i)) image (markAt image i) (markIn image i) h)
+      by-entry true e = rw (after-some e) (raises-octets image (markAt image i) (markIn image i) (min j (n / 64 - markIn image i)) h)
       by-entry false e = rw (after-none e) h
 
   -- nothing but the four octets of the mark differs
-  pub after-outside : n ≤ greatest → (p : ℕ) → Outside (markAt image i) p → octet (afterStores image i n j) p ≡ octet image p
-  after-outside h p out = by-entry (hasEntry image i) refl
+  pub mark-only : n ≤ greatest → Changed image (markAt image i) codeLength (afterStores image i n j)
+  unfolding afterStores planFor
+  mark-only h = plan-changed (planFor image i n) image (markAt image i) codeLength (inside (hasEntry image i)) j
     where
-      by-entry : (t : Bool) → hasEntry image i ≡ t → octet (afterStores image i n j) p ≡ octet image p
-      by-entry true e =
-          ap (λ (s : List ℕ). octet s p) (after-some e)
-          ∙ raises-outside (min j (n / 64 - markIn image i)) image (markAt image i) (markIn image i) (omega (arith, mark-fits n h)) p out
-      by-entry false e = ap (λ (s : List ℕ). octet s p) (after-none e)
+      planned : Bool → Plan
+      planned t = cond t (plan.Raise (markAt image i) (markIn image i) (n / 64)) plan.Nothing
 
-  pub mark-only : n ≤ greatest → MarkOnly image i (afterStores image i n j)
-  mark-only h = record { long = after-length; outside = after-outside h }
+      inside : (t : Bool) → (k : ℕ) → k < storesIn (planned t) → Inside (markAt image i) codeLength (storeAt (planned t) k)
+      inside true k l = store-inside (markAt image i) (markIn image i + k) (omega (arith, mark-fits n h))
+      inside false k l = absurd (omega arith)
 
 -- ---- what holds of the mark, in an image of octets that is laid out
 
 module _ (image : List ℕ) (i n j : ℕ) (octets : Octets image) (laid : laidOut image ≡ true) (listed : i < countOf image)
     (small : n ≤ greatest) where
-  code-below : numberAt (markAt image i) 4 image < 2 ^ 32
-  code-below = numberAt-lt (markAt image i) 4 image octets
+  code-below : numberAt (markAt image i) codeLength image < 2 ^ 32
+  code-below = numberAt-lt (markAt image i) codeLength image octets
 
   marked : Marked image (markAt image i) (markIn image i)
   marked =
       record {
         octets = octets;
         inside = mark-inside image (laid-out image laid) i listed;
-        code = sym (ap gray (mark-at image i) ∙ gray-ungray (numberAt (markAt image i) 4 image) code-below);
+        code = sym (ap gray (mark-at image i) ∙ gray-ungray (numberAt (markAt image i) codeLength image) code-below);
       }
 
   -- it is higher by the stores that were made
@@ -117,13 +130,13 @@ module _ (image : List ℕ) (i n j : ℕ) (octets : Octets image) (laid : laidOu
       let m : ℕ = markIn image i in
       let more : ℕ = min j (n / 64 - m) in
       let after : List ℕ = afterStores image i n j in
-      let below : markIn image i < 2 ^ 32 = rw mark-at (ungray-lt 32 (numberAt (markAt image i) 4 image) code-below) in
+      let below : markIn image i < 2 ^ 32 = rw mark-at (ungray-lt 32 (numberAt (markAt image i) codeLength image) code-below) in
       let made : Marked (stored image (raises at m more)) at (m + more) =
-      raises-marked more image at m marked (omega (arith, mark-fits n small))
+      raises-marked image at m more marked (omega (arith, mark-fits n small))
       in
       mark-at after i
-      ∙ ap (λ (a : ℕ). ungray (numberAt a 4 after)) (kept-mark-place image i after (mark-only image i n j small) i)
-      ∙ ap (λ (s : List ℕ). ungray (numberAt at 4 s)) (after-some image i n j (has-entry image i laid listed))
+      ∙ ap (λ (a : ℕ). ungray (numberAt a codeLength after)) (kept-mark-place (mark-within image i after listed (mark-only image i n j small)) i)
+      ∙ ap (λ (s : List ℕ). ungray (numberAt at codeLength s)) (after-some image i n j (has-entry image i laid listed))
       ∙ ap ungray (made .code)
       ∙ ungray-gray (m + more) (omega (arith, mark-fits n small))
 
@@ -142,32 +155,35 @@ pub record Raised (image : List ℕ) (i m : ℕ) (after : List ℕ) : Type 0 whe
   pub otherMark : (k : ℕ) → k ≢ i → markIn after k ≡ markIn image k
   pub otherBody : (k : ℕ) → k ≢ i → bodyOf after k ≡ bodyOf image k
   pub otherNumber : (k : ℕ) → k ≢ i → numberOf (loadedNumbers after) k ≡ numberOf (loadedNumbers image) k
-  pub fields : (k : ℕ) → SameFields (versionOf image) (bodyOf image k) (bodyOf after k)
-  pub outside : (p : ℕ) → Outside (markAt image i) p → octet after p ≡ octet image p
+  pub fields : (k : ℕ) → SameFields (bodyOf image k) (bodyOf after k)
+  pub key : (k : ℕ) → keyOf after k ≡ keyOf image k
+  pub outside : (p : ℕ) → Outside (markAt image i) codeLength p → octet after p ≡ octet image p
 
 -- after the first j of the stores that raise it to n / 64
 pub raised : (image : List ℕ) (i n j : ℕ) → validImage image ≡ true → Octets image → i < countOf image → n ≤ greatest
     → Raised image i (markIn image i + min j (n / 64 - markIn image i)) (afterStores image i n j)
 raised image i n j passed octets listed small =
     let after : List ℕ = afterStores image i n j in
-    let only : MarkOnly image i after = mark-only image i n j small in
+    let only : Changed image (markAt image i) codeLength after = mark-only image i n j small in
+    let within = mark-within image i after listed only in
     let mark : markIn after i ≡ markIn image i + min j (n / 64 - markIn image i) =
     after-mark image i n j octets (valid-laid image passed) listed small
     in
     let allowed : markIn after i < 2 ^ 26 = omega (arith, mark-small image (valid image passed) i listed, mark-fits n small) in
     record {
-      valid = kept-valid image i after only passed allowed;
+      valid = kept-valid image i after listed only passed allowed;
       octets = after-octets image i n j octets;
       long = after-length image i n j;
-      version = kept-version image i after only;
-      count = kept-count image i after only;
-      spi = kept-spi image i after only;
-      position = kept-position image i after only;
+      version = kept-version within;
+      count = kept-count within;
+      spi = kept-spi within;
+      position = kept-position within;
       mark = mark;
-      otherMark = kept-mark image i after only;
-      otherBody = kept-body image i after only;
+      otherMark = kept-mark within;
+      otherBody = kept-body within;
       otherNumber =
-          λ k other. loaded-same image after k (kept-count image i after only) (kept-mark image i after only k other);
-      fields = kept-fields image i after only;
-      outside = after-outside image i n j small;
+          λ k other. loaded-same image after k (kept-count within) (kept-mark within k other);
+      fields = kept-fields image i after listed only;
+      key = kept-key image i after listed only;
+      outside = only .outside;
     }

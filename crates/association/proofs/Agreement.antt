@@ -12,10 +12,11 @@ use lib.ListN.{length, set}
 use lib.Seq.{getD-set-same, getD-set-other}
 use Rattle.octets.specs.Lists.{Octets}
 use Rattle.octets.proofs.Alls.{and-left, and-right}
-use Rattle.association.specs.Image.{countOf, validImage}
-use Rattle.association.specs.Numbers.{greatest, numberOf, markIn, agrees, accepts, spent}
+use Rattle.image.specs.Image.{countOf, validImage}
+use Rattle.image.specs.Image.{markIn}
+use Rattle.association.specs.Numbers.{greatest, numberOf, agrees, accepts, spent}
 use Rattle.association.specs.Stores.{storesMade, afterStores}
-use Rattle.association.proofs.ValidImages.{valid}
+use Rattle.image.proofs.ValidImages.{valid}
 use Rattle.association.proofs.LoadedNumbers.{agreed, agreeing}
 use Rattle.association.proofs.AfterStores.{hasEntry, made-some, made-none, Raised, raised}
 

@@ -10,15 +10,18 @@ use native.Mathlib.Omega.{arith}
 use borrow.Author.Tests.{eqb-true}
 use lib.Dec.{eqb}
 use Rattle.octets.proofs.Alls.{and-left, and-right}
-use Rattle.association.specs.Image.{versionOf, countOf, spiOf, bodyOf}
+use Rattle.image.specs.Image.{versionOf, countOf, spiOf, bodyOf, markAt}
 use Rattle.association.specs.Numbers.{greatest}
 use Rattle.association.specs.Search.{bodyServes, matches, firstFrom, entryFor}
 use Rattle.association.specs.Stores.{afterStores}
 use Rattle.association.specs.declared.search.Found.{Found}
 use Rattle.association.specs.declared.search.Found.the-variants as found
 use Rattle.association.specs.declared.search.Wanted.{Wanted}
-use Rattle.association.proofs.ValidImages.{Valid, spi-once}
-use Rattle.association.proofs.KeptParts.{MarkOnly, kept-count, kept-matches}
+use Rattle.image.proofs.ValidImages.{Valid, spi-once}
+use Rattle.octets.proofs.Outside.{Changed}
+use Rattle.marks.specs.Gray.{codeLength}
+use Rattle.bodies.proofs.SameFields.{SameFields}
+use Rattle.image.proofs.KeptParts.{kept-version, kept-count, kept-spi, mark-within, kept-fields}
 use Rattle.association.proofs.AfterStores.{mark-only}
 
 -- ---- the first number at which a test passes
@@ -127,10 +130,28 @@ found-matching image v w i h m = by-answer (entryFor image w) refl
 
 -- ---- after the stores of a call
 
-pub found-after : (image : List ℕ) (i n j : ℕ) → n ≤ greatest → (w : Wanted) → entryFor (afterStores image i n j) w ≡ entryFor image w
+-- bodies with the same fields serve alike
+pub same-serves : (version : ℕ) (body other : List ℕ) → SameFields body other
+    → (w : Wanted) → bodyServes version other w ≡ bodyServes version body w
+unfolding bodyServes
+same-serves version body other f w = cc
+
+-- what the search tests, where only a mark differs
+pub kept-matches : (image : List ℕ) (i : ℕ) (after : List ℕ) → i < countOf image → Changed image (markAt image i) codeLength after
+    → (w : Wanted) (j : ℕ) → j < countOf image → matches after w j ≡ matches image w j
+unfolding matches
+kept-matches image i after listed only w j h =
+    let within = mark-within image i after listed only in
+    cc (
+      kept-version within,
+      kept-spi within j h,
+      same-serves (versionOf image) (bodyOf image j) (bodyOf after j) (kept-fields image i after listed only j) w,
+    )
+
+pub found-after : (image : List ℕ) (i n j : ℕ) → i < countOf image → n ≤ greatest → (w : Wanted) → entryFor (afterStores image i n j) w ≡ entryFor image w
 unfolding entryFor
-found-after image i n j small w =
+found-after image i n j listed small w =
     let after : List ℕ = afterStores image i n j in
-    let only : MarkOnly image i after = mark-only image i n j small in
-    ap (λ (k : ℕ). firstFrom 0 k (matches after w)) (kept-count image i after only)
-    ∙ first-same (countOf image) 0 (matches image w) (matches after w) (λ p l h. kept-matches image i after only w p (omega arith))
+    let only : Changed image (markAt image i) codeLength after = mark-only image i n j small in
+    ap (λ (k : ℕ). firstFrom 0 k (matches after w)) (kept-count (mark-within image i after listed only))
+    ∙ first-same (countOf image) 0 (matches image w) (matches after w) (λ p l h. kept-matches image i after listed only w p (omega arith))

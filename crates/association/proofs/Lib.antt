@@ -1,10 +1,5 @@
 pub mod AfterStores
 pub mod Agreement
 pub mod Finding
-pub mod GrayCode
-pub mod KeptParts
 pub mod LoadedNumbers
 pub mod Loading
-pub mod Places
-pub mod RaisedMarks
-pub mod ValidImages

@@ -11,8 +11,9 @@ use lib.Dec.{eqb, ltb}
 use lib.ListN.{length, List·getD-eq-default}
 use Rattle.octets.proofs.Alls.{all-at, all-every}
 use Rattle.octets.proofs.Rules.{length-tab, octet-tab}
-use Rattle.association.specs.Image.{countOf}
-use Rattle.association.specs.Numbers.{greatest, numberOf, markIn, loadedNumber, loadedNumbers, agrees}
+use Rattle.image.specs.Image.{countOf}
+use Rattle.image.specs.Image.{markIn}
+use Rattle.association.specs.Numbers.{greatest, numberOf, loadedNumber, loadedNumbers, agrees}
 
 -- ---- numbers and marks
 

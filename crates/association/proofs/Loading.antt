@@ -13,8 +13,9 @@ use lib.ListN.{length, set, replicate, length-set, length-replicate, getD-replic
 use lib.Seq.{ext-getD, getD-set-same, getD-set-other}
 use Rattle.octets.specs.Lists.{tab}
 use Rattle.octets.proofs.Rules.{length-tab, octet-tab}
-use Rattle.association.specs.Image.{countOf}
-use Rattle.association.specs.Numbers.{numberOf, markIn, loadedNumber, loadedNumbers}
+use Rattle.image.specs.Image.{countOf}
+use Rattle.image.specs.Image.{markIn}
+use Rattle.association.specs.Numbers.{numberOf, loadedNumber, loadedNumbers}
 
 -- the number of entry j when i entries are loaded
 abbrev loadedOf : List ℕ → ℕ → ℕ → ℕ

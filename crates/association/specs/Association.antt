@@ -1,11 +1,12 @@
--- An association as a call sees it: the body of the entry that matches, the version by which the body is read, and the entry's number.
+-- An association as a call sees it: the body of the entry that matches, the version by which the body is read, its key and the entry's number.
 -- Assumes nothing.
 use Prim.Native.Nat.{ℕ}
 use mathlib.Core.Bool.{Bool, true, false}
 use mathlib.Core.List.{List, []}
-use Rattle.association.specs.Body.{serviceOf, kindIn, directionOf, stateOf, windowOf, maskOf, keyOf}
-use Rattle.association.specs.Image.{versionOf, spiOf, bodyOf}
-use Rattle.association.specs.Numbers.{numberOf, markIn}
+use Rattle.octets.specs.Lists.{part}
+use Rattle.bodies.specs.Body.{serviceOf, kindIn, directionOf, stateOf, windowOf, maskOf}
+use Rattle.image.specs.Image.{versionOf, spiOf, bodyOf, keyOf, markIn}
+use Rattle.association.specs.Numbers.{numberOf}
 use Rattle.association.specs.Search.{entryFor}
 use Rattle.association.specs.declared.entry.Entry.{Entry}
 use Rattle.association.specs.declared.held.Held.{Held}
@@ -16,18 +17,19 @@ use Rattle.association.specs.declared.search.Wanted.{Wanted}
 pub record Association : Type 0 where
   pub version : ℕ
   pub body : List ℕ
+  pub key : List ℕ
   pub number : ℕ
 
 -- that of entry i
 unfoldable pub associationOf : List ℕ → List ℕ → ℕ → Association
-associationOf image last i = record { version = versionOf image; body = bodyOf image i; number = numberOf last i }
+associationOf image last i = record { version = versionOf image; body = bodyOf image i; key = keyOf image i; number = numberOf last i }
 
--- what the code holds of a body: the fields that protect a frame
-unfoldable pub held : ℕ → List ℕ → Held
-held version body = record { service = serviceOf body; window = windowOf body; mask = maskOf body; key = keyOf version body }
+-- what the code holds of a body and its key: the fields that protect a frame
+unfoldable pub held : List ℕ → List ℕ → Held
+held body key = record { service = serviceOf body; window = windowOf body; mask = maskOf body; key = key }
 
 abbrev pub heldIn : Association → Held
-heldIn a = held (a .version) (a .body)
+heldIn a = held (a .body) (a .key)
 
 -- an entry as a report shows it
 unfoldable pub entryOf : List ℕ → ℕ → Entry
@@ -56,7 +58,7 @@ isNone none = true
 -- the one there is; where there is none, one whose octets all read as 0
 abbrev pub theOne : Match → Association
 theOne (one a) = a
-theOne none = record { version = 0; body = []; number = 0 }
+theOne none = record { version = 0; body = []; key = part 0 32 []; number = 0 }
 
 abbrev pub matchAt : List ℕ → List ℕ → Found → Match
 matchAt image last (found.At i) = one (associationOf image last i)

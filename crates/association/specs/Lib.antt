@@ -1,6 +1,3 @@
-pub mod Body
-pub mod Gray
-pub mod Image
 pub mod Association
 pub mod Numbers
 pub mod Search

@@ -6,8 +6,7 @@ use mathlib.Core.List.{List}
 use lib.Dec.{eqb, leb, ltb}
 use lib.ListN.{getD}
 use Rattle.octets.specs.Lists.{tab, all}
-use Rattle.association.specs.Body.{markOf}
-use Rattle.association.specs.Image.{versionOf, countOf, bodyOf, validImage}
+use Rattle.image.specs.Image.{countOf, mostEntries, markIn, validImage}
 use Rattle.association.specs.declared.numbers.Standing.{Standing}
 use Rattle.association.specs.declared.numbers.Standing.the-variants as standing
 
@@ -15,13 +14,9 @@ use Rattle.association.specs.declared.numbers.Standing.the-variants as s
 abbrev pub greatest : ℕ
 greatest = 4294967295
 
--- the number of entry i; there are 32
+-- the number of entry i; there is one for each entry that an image may have
 abbrev pub numberOf : List ℕ → ℕ → ℕ
 numberOf last i = getD last i 0
-
--- the mark that entry i of an image holds
-unfoldable pub markIn : List ℕ → ℕ → ℕ
-markIn image i = markOf (versionOf image) (bodyOf image i)
 
 -- ---- load
 
@@ -30,7 +25,7 @@ abbrev pub loadedNumber : ℕ → ℕ
 loadedNumber mark = 64 * mark + 63
 
 unfoldable pub loadedNumbers : List ℕ → List ℕ
-loadedNumbers image = tab 32 (λ i. cond (ltb i (countOf image)) (loadedNumber (markIn image i)) 0)
+loadedNumbers image = tab mostEntries (λ i. cond (ltb i (countOf image)) (loadedNumber (markIn image i)) 0)
 
 -- ---- agreement, answer 2: for each entry, last / 64 rounded down is its mark
 

@@ -4,8 +4,9 @@ use Prim.Native.Nat.{ℕ, zero, suc, _+_}
 use mathlib.Core.Bool.{Bool, cond, not, _&&_, _||_}
 use mathlib.Core.List.{List}
 use lib.Dec.{eqb}
-use Rattle.association.specs.Body.{kindIn, directionOf, stateOf, spacecraftOf, channelOf, mapOf}
-use Rattle.association.specs.Image.{versionOf, countOf, spiOf, bodyOf}
+use Rattle.kinds.specs.Kinds.{hasMap, kindOf}
+use Rattle.bodies.specs.Body.{kindIn, directionOf, stateOf, spacecraftOf, channelOf, mapOf}
+use Rattle.image.specs.Image.{versionOf, countOf, spiOf, bodyOf}
 use Rattle.association.specs.declared.search.Found.{Found}
 use Rattle.association.specs.declared.search.Found.the-variants as found
 use Rattle.association.specs.declared.search.Wanted.{Wanted}
@@ -17,9 +18,9 @@ operational = 2
 abbrev pub servesChannel : ℕ → List ℕ → ℕ → Bool
 servesChannel version body channel = eqb (channelOf body) channel
 
--- a kind other than 2 has no MAP
+-- of a kind that has no MAP, any
 abbrev pub servesMap : List ℕ → ℕ → Bool
-servesMap body map = not (eqb (kindIn body) 2) || eqb (mapOf body) map
+servesMap body map = not (hasMap (kindOf (kindIn body))) || eqb (mapOf body) map
 
 -- operational, and of that direction, kind, spacecraft, channel and MAP
 unfoldable pub bodyServes : ℕ → List ℕ → Wanted → Bool

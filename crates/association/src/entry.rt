@@ -1,11 +1,13 @@
 // An entry of an image in the words of a report.
-use crate::body::direction_of;
-use crate::body::kind_in;
-use crate::body::mark_in;
-use crate::body::service_of;
-use crate::body::state_of;
-use crate::body::window_of;
-use crate::image::spi_of;
+use bodies::direction_of;
+use bodies::kind_in;
+use bodies::service_of;
+use bodies::state_of;
+use bodies::window_of;
+use image::body_at;
+use image::mark_in;
+use image::spi_of;
+use image::version_of;
 ghost use mathlib.Core.Path.{_≡_};
 ghost use Rattle.association.specs.Association.{entryOf};
 
@@ -23,13 +25,15 @@ pub struct Entry {
 pub fn entry_at(image: &[u8], index: u8) -> Entry
     ensures { λ r. ⌜ r ≡ entryOf (now (image .entry)) index ⌝ }
 {
+    let version = version_of(image);
+    let at = body_at(image, index);
     Entry {
         spi: spi_of(image, index),
-        service: service_of(image, index),
-        kind: kind_in(image, index),
-        direction: direction_of(image, index),
-        state: state_of(image, index),
-        window: window_of(image, index),
+        service: service_of(image, version, at),
+        kind: kind_in(image, version, at),
+        direction: direction_of(image, version, at),
+        state: state_of(image, version, at),
+        window: window_of(image, version, at),
         mark: mark_in(image, index),
     }
 }

@@ -1,10 +1,7 @@
-// Document 01, 'The image' and 'Managed numbers': associations. The image is a list of octets that the caller lends; an entry is named by
-// its index in the contents, counted from 0. Every function answers for every image: what lies past its end reads as 0, and is never written.
-mod body;
+// Document 01, 'Managed numbers': associations. The image is a list of octets that the caller lends; an entry is named by its index in the
+// contents, counted from 0. Every function answers for every image: what lies past its end reads as 0, and is never written.
 mod entry;
-mod gray;
 mod held;
-mod image;
 mod numbers;
 mod search;
 mod stores;
@@ -13,7 +10,6 @@ pub use entry::Entry;
 pub use entry::entry_at;
 pub use held::Held;
 pub use held::held_at;
-pub use image::image_ok;
 pub use numbers::Loaded;
 pub use numbers::Numbers;
 pub use numbers::Standing;
@@ -22,4 +18,5 @@ pub use numbers::test_standing;
 pub use search::Found;
 pub use search::Wanted;
 pub use search::find;
+pub use stores::plan_for;
 pub use stores::raise;

@@ -1,17 +1,18 @@
 // Document 01, 'Managed numbers': the last number of each entry, held by value.
-use crate::body::code_of;
-use crate::body::mark_in;
-use crate::gray::gray_of;
-use crate::image::count_of;
-use crate::image::image_ok;
-use crate::image::version_of;
+use bodies::code_of;
+use image::body_at;
+use image::count_of;
+use image::image_ok;
+use image::mark_in;
+use image::version_of;
+use marks::gray_of;
 ghost use mathlib.Core.Path.{_≡_};
 ghost use mathlib.Core.Bool.{true};
 ghost use Prim.Native.Nat.{_<_, _^_, _/_};
 ghost use lib.Dec.{eqb};
 ghost use lib.ListN.{set};
-ghost use Rattle.association.specs.Image.{validImage};
-ghost use Rattle.association.specs.Numbers.{numberOf, markIn, loadedNumber, loadedNumbers, agrees};
+ghost use Rattle.image.specs.Image.{markIn, validImage};
+ghost use Rattle.association.specs.Numbers.{numberOf, loadedNumber, loadedNumbers, agrees};
 ghost use Rattle.association.specs.Numbers.{loadStanding, loadNumbers, standingOf};
 
 pub struct Numbers {
@@ -97,7 +98,7 @@ pub fn load(image: &[u8], numbers: Numbers) -> Loaded
 fn agrees_at(image: &[u8], index: u8, last: u32) -> bool
     ensures { λ r. ⌜ r ≡ eqb (last / 64) (markIn (now (image .entry)) index) ⌝ }
 {
-    code_of(image, version_of(image), index) == gray_of(last / 64)
+    code_of(image, version_of(image), body_at(image, index)) == gray_of(last / 64)
 }
 
 fn marks_agree(image: &[u8], numbers: Numbers) -> bool

@@ -1,15 +1,19 @@
 // Document 01, 'What comes back', answer 4: the search of the contents for the entry that serves a frame.
-use crate::body::channel_of;
-use crate::body::direction_of;
-use crate::body::kind_in;
-use crate::body::map_of;
-use crate::body::spacecraft_of;
-use crate::body::state_of;
-use crate::image::count_of;
-use crate::image::spi_of;
-use crate::image::version_of;
+use bodies::channel_of;
+use bodies::direction_of;
+use bodies::kind_in;
+use bodies::map_of;
+use bodies::spacecraft_of;
+use bodies::state_of;
+use image::body_at;
+use image::count_of;
+use image::spi_of;
+use image::version_of;
+use kinds::Named;
+use kinds::kind_of;
 ghost use mathlib.Core.Path.{_≡_};
-ghost use Rattle.association.specs.Image.{bodyOf};
+ghost use Rattle.kinds.specs.Kinds.{hasMap, kindOf};
+ghost use Rattle.bodies.specs.Body.{bodyIn};
 ghost use Rattle.association.specs.Search.{servesChannel, servesMap, bodyServes, matches, entryFor};
 
 // The index of an entry, or none.
@@ -28,34 +32,44 @@ pub struct Wanted {
     pub map: u8,
 }
 
-fn serves_channel(image: &[u8], version: u8, index: u8, channel: u8) -> bool
-    ensures { λ r. ⌜ r ≡ servesChannel version (bodyOf (now (image .entry)) index) channel ⌝ }
+fn serves_channel(image: &[u8], version: u8, at: u16, channel: u8) -> bool
+    ensures { λ r. ⌜ r ≡ servesChannel version (bodyIn (now (image .entry)) version at) channel ⌝ }
 {
-    channel_of(image, index) == channel
+    channel_of(image, version, at) == channel
 }
 
-// A kind other than 2 has no MAP.
-fn serves_map(image: &[u8], index: u8, map: u8) -> bool
-    ensures { λ r. ⌜ r ≡ servesMap (bodyOf (now (image .entry)) index) map ⌝ }
+// Whether frames of the kind that a number names have a MAP.
+fn has_map(number: u8) -> bool
+    ensures { λ r. ⌜ r ≡ hasMap (kindOf number) ⌝ }
 {
-    !(kind_in(image, index) == 2) | (map_of(image, index) == map)
+    match kind_of(number) {
+        Named::Kind(kind) => 0 < kind.most_map(),
+        Named::Nothing => false,
+    }
 }
 
-fn body_serves(image: &[u8], version: u8, index: u8, wanted: Wanted) -> bool
-    ensures { λ r. ⌜ r ≡ bodyServes version (bodyOf (now (image .entry)) index) wanted ⌝ }
+fn serves_map(image: &[u8], version: u8, at: u16, map: u8) -> bool
+    ensures { λ r. ⌜ r ≡ servesMap (bodyIn (now (image .entry)) version at) map ⌝ }
 {
-    (state_of(image, index) == 2)
-        & (direction_of(image, index) == wanted.direction)
-        & (kind_in(image, index) == wanted.kind)
-        & (spacecraft_of(image, index) == wanted.spacecraft)
-        & serves_channel(image, version, index, wanted.channel)
-        & serves_map(image, index, wanted.map)
+    !has_map(kind_in(image, version, at)) | (map_of(image, version, at) == map)
+}
+
+fn body_serves(image: &[u8], version: u8, at: u16, wanted: Wanted) -> bool
+    ensures { λ r. ⌜ r ≡ bodyServes version (bodyIn (now (image .entry)) version at) wanted ⌝ }
+{
+    (state_of(image, version, at) == 2)
+        & (direction_of(image, version, at) == wanted.direction)
+        & (kind_in(image, version, at) == wanted.kind)
+        & (spacecraft_of(image, version, at) == wanted.spacecraft)
+        & serves_channel(image, version, at, wanted.channel)
+        & serves_map(image, version, at, wanted.map)
 }
 
 fn entry_matches(image: &[u8], wanted: Wanted, index: u8) -> bool
     ensures { λ r. ⌜ r ≡ matches (now (image .entry)) wanted index ⌝ }
 {
-    (spi_of(image, index) == wanted.spi) & body_serves(image, version_of(image), index, wanted)
+    (spi_of(image, index) == wanted.spi)
+        & body_serves(image, version_of(image), body_at(image, index), wanted)
 }
 
 // The search of the contents. It ends at the first entry that matches.

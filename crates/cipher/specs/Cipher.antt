@@ -8,7 +8,7 @@ use Rattle.cipher.specs.SubBytes.{subBytes}
 use Rattle.cipher.specs.ShiftRows.{shiftRows}
 use Rattle.cipher.specs.MixColumns.{mixColumns}
 use Rattle.cipher.specs.AddRoundKey.{addRoundKey}
-use Rattle.cipher.specs.KeyExpansion.{keyExpansion}
+use Rattle.key_schedule.specs.KeyExpansion.{keyExpansion}
 
 -- one round under the expanded key w, on the state s
 unfoldable pub round : List ℕ → ℕ → List ℕ → List ℕ

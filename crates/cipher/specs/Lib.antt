@@ -1,7 +1,5 @@
 pub mod AddRoundKey
 pub mod Cipher
-pub mod Field
-pub mod KeyExpansion
 pub mod MixColumns
 pub mod ShiftRows
 pub mod State

@@ -3,7 +3,7 @@
 use Prim.Native.Nat.{ℕ}
 use mathlib.Core.List.{List, [], _∷_}
 use Rattle.octets.specs.Lists.{octet}
-use Rattle.cipher.specs.Field.{_⊗_}
+use Rattle.substitution.specs.Field.{_⊗_}
 use Rattle.cipher.specs.State.{column, state}
 
 -- (5.5): a(x) = {03}x^3 + {01}x^2 + {01}x + {02}, its coefficients from that of x^0 up

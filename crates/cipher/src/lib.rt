@@ -1,21 +1,20 @@
 // AES-256 (FIPS 197), an octet at a time. A block and a state are their sixteen octets in the order of the input (3.4).
 // The expansion of a key serves any number of blocks: `encrypt_block(&expand_key(key), block)` is AES-256 of each.
 mod add_round_key;
-mod key_expansion;
 mod mix_columns;
 mod shift_rows;
 mod sub_bytes;
 
 use add_round_key::add_round_key;
-pub use key_expansion::expand_key;
+pub use key_schedule::expand_key;
 use mix_columns::mix_columns;
 use shift_rows::shift_rows;
 use sub_bytes::sub_bytes;
-use sub_bytes::substitution_table;
+use substitution::substitution_table;
 ghost use mathlib.Core.Path.{_≡_};
 ghost use Prim.Native.Nat.{_<_};
 ghost use Rattle.octets.specs.Lists.{IsTable};
-ghost use Rattle.cipher.specs.SubBytes.{sbox};
+ghost use Rattle.substitution.specs.Sbox.{sbox};
 ghost use Rattle.cipher.specs.Cipher.{round, cipher, aes256};
 
 // One of the rounds 1 to 13 of figure 5.

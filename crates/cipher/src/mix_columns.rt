@@ -1,7 +1,7 @@
 // FIPS 197, 5.1.3: MixColumns.
 ghost use mathlib.Core.Path.{_≡_};
 ghost use mathlib.Core.List.{[], _∷_};
-ghost use Rattle.cipher.specs.Field.{xtime, _⊗_};
+ghost use Rattle.substitution.specs.Field.{xtime, _⊗_};
 ghost use Rattle.cipher.specs.MixColumns.{mixer, mixColumns};
 
 // x times b in the field (4.2.1).

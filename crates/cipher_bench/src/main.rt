@@ -1,22 +1,19 @@
 // Chains of calls, for measuring: of the cipher alone, and of the modes that stand on it.
 mod chains;
 mod modes;
-mod number;
 
-use libc::STDOUT_FILENO;
-use number::Count;
+use lines::Number;
+use lines::print;
+use lines::print_octets;
+use lines::read_number;
 
 const KEY: [u8; 32] = *b"\
     \x00\x01\x02\x03\x04\x05\x06\x07\x08\x09\x0a\x0b\x0c\x0d\x0e\x0f\
     \x10\x11\x12\x13\x14\x15\x16\x17\x18\x19\x1a\x1b\x1c\x1d\x1e\x1f";
 
 fn print_line(octets: &[u8]) {
-    let mut i: usize = 0;
-    while i < octets.len() {
-        io::print_hex(STDOUT_FILENO, number::wide(octets[i]), 2);
-        i += 1;
-    }
-    io::write_all(STDOUT_FILENO, b"\n");
+    print_octets(b"", octets);
+    print(b"\n");
 }
 
 fn run_cipher(what: &[u8], count: u64) -> bool {
@@ -33,36 +30,37 @@ fn run_cipher(what: &[u8], count: u64) -> bool {
 
 // The first message is all zeros.
 fn run_mode(what: &[u8], size: usize, count: u64) -> bool {
-    let mut message = [0u8; modes::MOST];
+    let mut whole = [0u8; modes::MOST];
     if modes::MOST < size {
         return false;
     }
+    let message = &mut whole[..size];
     if check::same(what, b"mac") {
-        print_line(&modes::macs(KEY, &mut message[..size], count));
+        print_line(&modes::macs(KEY, message, count));
         return true;
     }
     if check::same(what, b"seal") {
-        print_line(&modes::seals(KEY, &mut message[..size], count));
+        print_line(&modes::seals(KEY, message, count));
         return true;
     }
     false
 }
 
-fn number_at(place: usize) -> Count {
+fn number_at(place: usize) -> Number {
     let mut digits = [0u8; 20];
     let n = os::arg(place, &mut digits);
-    number::read(&digits[..n])
+    read_number(&digits[..n])
 }
 
 // Whether the arguments behind the name are right for it, and the chain was run.
 fn run_named(what: &[u8]) -> bool {
-    let Count::Is(first) = number_at(2) else {
+    let Number::Is(first) = number_at(2) else {
         return false;
     };
     if os::arg_count() == 3 {
         return run_cipher(what, first);
     }
-    let Count::Is(second) = number_at(3) else {
+    let Number::Is(second) = number_at(3) else {
         return false;
     };
     os::arg_count() == 4 && run_mode(what, first as usize, second)
@@ -76,10 +74,7 @@ fn run_arguments() -> bool {
 
 fn main() {
     if !run_arguments() {
-        io::write_all(STDOUT_FILENO, b"usage: cipher_bench blocks|keys COUNT\n");
-        io::write_all(
-            STDOUT_FILENO,
-            b"       cipher_bench mac|seal SIZE COUNT (a SIZE of at most 2048)\n",
-        );
+        print(b"usage: cipher_bench blocks|keys COUNT\n");
+        print(b"       cipher_bench mac|seal SIZE COUNT (a SIZE of at most 2048)\n");
     }
 }

@@ -1,7 +1,6 @@
 // Chains of the modes, with the key set up in each call. Each call works on a message that holds what the one before gave, so none can be
 // left out.
 ghost use Prim.Native.Nat.{_≤_};
-ghost use lib.ListN.{length};
 
 // The most octets of a message.
 pub(crate) const MOST: usize = 2048;
@@ -56,9 +55,7 @@ pub(crate) fn macs(key: [u8; 32], message: &mut [u8], count: u64) -> [u8; 16] {
 }
 
 // Seals the message, then the ciphertext with the tag added to its front, and so on.
-pub(crate) fn seals(key: [u8; 32], message: &mut [u8], count: u64) -> [u8; 16]
-    requires { ⌜ length (now message) ≤ 2048 ⌝ }
-{
+pub(crate) fn seals(key: [u8; 32], message: &mut [u8], count: u64) -> [u8; 16] {
     let additional = ADDITIONAL;
     let mut out = [0u8; MOST];
     let mut last = [0u8; 16];

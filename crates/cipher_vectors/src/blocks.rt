@@ -1,41 +1,31 @@
 // The vectors of AES-256.
-use crate::hex;
+use crate::fields::block;
+use crate::fields::is_empty;
+use crate::fields::key;
+use crate::fields::spells;
 use crate::tally::Outcome;
 use crate::tally::right_if;
+use lines::front;
 
-// A line `KEY WORD`, the n-th of its file, with word n of the expanded key.
-pub(crate) fn word(n: u64, line: &[u8]) -> Outcome {
-    let mut key = [0u8; 32];
-    let mut published = [0u8; 4];
-    if !hex::field(line, 0, &mut key, b' ') {
-        return Outcome::Differs;
-    }
-    if !hex::field(line, 65, &mut published, b'\n') {
-        return Outcome::Differs;
-    }
+fn is_word(key: [u8; 32], n: u64, published: [u8; 16]) -> bool {
     if 60 <= n {
-        return Outcome::Differs;
+        return false;
     }
     let expanded = cipher::expand_key(key);
     let at = 4 * n as usize;
     let end = at + 4;
-    right_if(check::same(&expanded[at..end], &published))
+    check::same(&expanded[at..end], front(&published, 4))
+}
+
+// A line `KEY WORD`, the n-th of its file, with word n of the expanded key.
+pub(crate) fn word(n: u64, line: &[u8]) -> Outcome {
+    let is_read = spells(line, 0, 32) & spells(line, 1, 4) & is_empty(line, 2);
+    right_if(is_read & is_word(key(line), n, block(line, 1)))
 }
 
 // A line `KEY BLOCK RESULT`.
 pub(crate) fn encryption(line: &[u8]) -> Outcome {
-    let mut key = [0u8; 32];
-    let mut block = [0u8; 16];
-    let mut result = [0u8; 16];
-    if !hex::field(line, 0, &mut key, b' ') {
-        return Outcome::Differs;
-    }
-    if !hex::field(line, 65, &mut block, b' ') {
-        return Outcome::Differs;
-    }
-    if !hex::field(line, 98, &mut result, b'\n') {
-        return Outcome::Differs;
-    }
-    let encrypted = cipher::encrypt(key, block);
-    right_if(check::same(&encrypted, &result))
+    let is_read = spells(line, 0, 32) & spells(line, 1, 16) & spells(line, 2, 16);
+    let made = cipher::encrypt(key(line), block(line, 1));
+    right_if(is_read & is_empty(line, 3) & check::same(&made, &block(line, 2)))
 }

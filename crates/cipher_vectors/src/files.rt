@@ -5,7 +5,7 @@ use crate::seals;
 use crate::seals::Trial;
 use crate::tally::Outcome;
 use crate::tally::Tally;
-use crate::text;
+use lines::read_line;
 
 // What is tested of a line.
 pub(crate) enum Test {
@@ -31,7 +31,7 @@ fn outcome(test: Test, n: u64, line: &[u8]) -> Outcome {
 
 fn read_next(fd: i32, test: Test, n: u64) -> Next {
     let mut line = [0u8; 640];
-    let count = text::read_line(fd, &mut line);
+    let count = read_line(fd, &mut line);
     if count == 0 {
         return Next::End;
     }

@@ -1,28 +1,74 @@
 // The vectors of GCM, a line `KEY IV PLAINTEXT ADDITIONAL CIPHERTEXT TAG` each.
-use crate::hex;
+use crate::fields::block;
+use crate::fields::is_empty;
+use crate::fields::is_whole;
+use crate::fields::key;
+use crate::fields::spells;
 use crate::tally::Outcome;
 use crate::tally::right_if;
+use lines::field;
+use lines::front;
+use lines::read_octets;
 
-// What is tested of an entry: that it is sealed and opened as published, or that it is refused with one bit changed.
+const PLAINTEXT: usize = 2;
+
+// The fields that a trial may change.
+pub(crate) const ADDITIONAL: usize = 3;
+
+pub(crate) const CIPHERTEXT: usize = 4;
+
+pub(crate) const TAG: usize = 5;
+
+// What is tested of an entry: that it is sealed and opened as published, or that it is refused with one bit of a field changed.
 pub(crate) enum Trial {
     Sealed,
     Opened,
-    TagChanged,
-    CiphertextChanged,
-    AdditionalChanged,
+    Refused(usize),
 }
 
 const BITS: [u8; 8] = [1, 2, 4, 8, 16, 32, 64, 128];
 
-// Changes one bit of s, by turns another one; false where s is empty.
-fn change(s: &mut [u8], n: u64) -> bool {
-    if s.len() == 0 {
-        return false;
+// Whether the trial changes a field.
+fn is_changed(trial: Trial, number: usize) -> bool {
+    match trial {
+        Trial::Refused(changed) => changed == number,
+        _ => false,
     }
-    let at = n as usize % s.len();
+}
+
+// Changes one bit of the first `count` octets, by turns another one.
+fn change(octets: &mut [u8], count: usize, n: u64) {
+    if count == 0 {
+        return;
+    }
+    let at = n as usize % count;
     let bit = n as usize % 8;
-    s[at] = s[at] ^ BITS[bit];
-    true
+    if at < octets.len() {
+        octets[at] = octets[at] ^ BITS[bit];
+    }
+}
+
+// Reads a field, and changes it where the trial is to; how many octets it has.
+fn read_part(trial: Trial, n: u64, line: &[u8], number: usize, out: &mut [u8]) -> usize {
+    let count = read_octets(field(line, number), out);
+    if is_changed(trial, number) {
+        change(out, count, n);
+    }
+    count
+}
+
+fn iv(line: &[u8]) -> [u8; 12] {
+    let mut octets = [0u8; 12];
+    read_octets(field(line, 1), &mut octets);
+    octets
+}
+
+fn tag(trial: Trial, n: u64, line: &[u8]) -> [u8; 16] {
+    let mut octets = block(line, TAG);
+    if is_changed(trial, TAG) {
+        change(&mut octets, 16, n);
+    }
+    octets
 }
 
 fn is_sealed(
@@ -34,17 +80,13 @@ fn is_sealed(
     tag: [u8; 16],
 ) -> bool {
     let mut out = [0u8; 64];
-    let n = plain.len();
-    if 64 < n {
-        return false;
-    }
     let sealed = gcm::seal(key, iv, additional, plain, &mut out);
     let answer = sealed.answer;
     let made = sealed.tag;
     let gcm::Answer::Done = answer else {
         return false;
     };
-    check::same(&out[..n], ciphertext) && check::same(&made, &tag)
+    check::same(front(&out, plain.len()), ciphertext) & check::same(&made, &tag)
 }
 
 fn is_opened(
@@ -56,15 +98,11 @@ fn is_opened(
     tag: [u8; 16],
 ) -> bool {
     let mut out = [0u8; 64];
-    let n = ciphertext.len();
-    if 64 < n {
-        return false;
-    }
     let outcome = gcm::open(key, iv, additional, ciphertext, tag, &mut out);
     let gcm::Outcome::Done = outcome else {
         return false;
     };
-    check::same(&out[..n], plain)
+    check::same(front(&out, ciphertext.len()), plain)
 }
 
 // Both the check and the opening must say that the tag is wrong, and the output stay as it was.
@@ -88,22 +126,6 @@ fn is_refused(
     check::same(&out, &before)
 }
 
-// Changes what the trial is to change; false where there is nothing to change.
-fn alter(
-    trial: Trial,
-    n: u64,
-    additional: &mut [u8],
-    ciphertext: &mut [u8],
-    tag: &mut [u8],
-) -> bool {
-    match trial {
-        Trial::TagChanged => change(tag, n),
-        Trial::CiphertextChanged => change(ciphertext, n),
-        Trial::AdditionalChanged => change(additional, n),
-        _ => true,
-    }
-}
-
 fn is_right(
     trial: Trial,
     key: [u8; 32],
@@ -116,40 +138,49 @@ fn is_right(
     match trial {
         Trial::Sealed => is_sealed(key, iv, additional, plain, ciphertext, tag),
         Trial::Opened => is_opened(key, iv, additional, plain, ciphertext, tag),
-        _ => is_refused(key, iv, additional, ciphertext, tag),
+        Trial::Refused(_) => is_refused(key, iv, additional, ciphertext, tag),
     }
 }
 
-pub(crate) fn entry(trial: Trial, n: u64, line: &[u8]) -> Outcome {
-    let mut key = [0u8; 32];
-    let mut iv = [0u8; 12];
-    let mut plain = [0u8; 64];
+// A field that is to be changed and is empty cannot be.
+fn is_skipped(trial: Trial, line: &[u8]) -> bool {
+    match trial {
+        Trial::Refused(changed) => is_empty(line, changed),
+        _ => false,
+    }
+}
+
+fn run(trial: Trial, n: u64, line: &[u8]) -> bool {
     let mut additional = [0u8; 96];
+    let mut plain = [0u8; 64];
     let mut ciphertext = [0u8; 64];
-    let mut tag = [0u8; 16];
-    let is_key = hex::field(line, 0, &mut key, b' ');
-    let is_iv = hex::field(line, 65, &mut iv, b' ');
-    let p = hex::read_part(line, 90, &mut plain, b' ');
-    let a = hex::read_part(line, p.next, &mut additional, b' ');
-    let c = hex::read_part(line, a.next, &mut ciphertext, b' ');
-    let is_tag = hex::field(line, c.next, &mut tag, b'\n');
-    if !(is_key & is_iv & p.is_right & a.is_right & c.is_right & is_tag) {
+    let a = read_part(trial, n, line, ADDITIONAL, &mut additional);
+    let p = read_part(trial, n, line, PLAINTEXT, &mut plain);
+    let c = read_part(trial, n, line, CIPHERTEXT, &mut ciphertext);
+    is_right(
+        trial,
+        key(line),
+        iv(line),
+        front(&additional, a),
+        front(&plain, p),
+        front(&ciphertext, c),
+        tag(trial, n, line),
+    )
+}
+
+fn is_entry(line: &[u8]) -> bool {
+    let is_setup = spells(line, 0, 32) & spells(line, 1, 12);
+    let is_text = is_whole(line, PLAINTEXT) & is_whole(line, ADDITIONAL);
+    let is_result = is_whole(line, CIPHERTEXT) & spells(line, TAG, 16) & is_empty(line, 6);
+    is_setup & is_text & is_result
+}
+
+pub(crate) fn entry(trial: Trial, n: u64, line: &[u8]) -> Outcome {
+    if !is_entry(line) {
         return Outcome::Differs;
     }
-    let p = p.count;
-    let a = a.count;
-    let c = c.count;
-    let plain = &plain[..p];
-    if !alter(
-        trial,
-        n,
-        &mut additional[..a],
-        &mut ciphertext[..c],
-        &mut tag,
-    ) {
+    if is_skipped(trial, line) {
         return Outcome::Skipped;
     }
-    let additional = &additional[..a];
-    let ciphertext = &ciphertext[..c];
-    right_if(is_right(trial, key, iv, additional, plain, ciphertext, tag))
+    right_if(run(trial, n, line))
 }

@@ -1,5 +1,6 @@
 // How the vectors of a file went, and the line that says so.
-use libc::STDOUT_FILENO;
+use lines::print;
+use lines::print_number;
 
 // What came of a vector.
 pub(crate) enum Outcome {
@@ -48,13 +49,11 @@ impl Tally {
 
     // Writes a line as `ECBGFSbox256: 5 encryptions, 0 differ`.
     pub fn print(self, name: &[u8], what: &[u8]) {
-        io::write_all(STDOUT_FILENO, name);
-        io::write_all(STDOUT_FILENO, b": ");
-        io::print_decimal(STDOUT_FILENO, self.ran);
-        io::write_all(STDOUT_FILENO, b" ");
-        io::write_all(STDOUT_FILENO, what);
-        io::write_all(STDOUT_FILENO, b", ");
-        io::print_decimal(STDOUT_FILENO, self.differ);
-        io::write_all(STDOUT_FILENO, b" differ\n");
+        print(name);
+        print_number(b": ", self.ran);
+        print(b" ");
+        print(what);
+        print_number(b", ", self.differ);
+        print(b" differ\n");
     }
 }

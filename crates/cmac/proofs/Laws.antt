@@ -8,22 +8,24 @@ use lib.ListN.{length}
 use Rattle.octets.specs.Lists.{Octets}
 use Rattle.octets.proofs.Bounds.{octets-tab}
 use Rattle.octets.proofs.Rules.{length-tab}
-use Rattle.cipher.proofs.Laws.{length-aes256, octets-aes256}
+use Rattle.key_schedule.specs.KeyExpansion.{keyExpansion}
+use Rattle.key_schedule.proofs.Laws.{octets-keyExpansion}
+use Rattle.cipher.proofs.Laws.{length-cipher, octets-cipher}
 use Rattle.cmac.specs.Mac.{blockCount, chain, cmac}
 use Rattle.cmac.specs.Mac.Opened.{cmac-is}
 
-length-chain : (key m : List ℕ) (i : ℕ) → length (chain key m i) ≡ 16
+length-chain : (w m : List ℕ) (i : ℕ) → length (chain w m i) ≡ 16
 unfolding chain
-length-chain key m zero = length-tab 16 _
-length-chain key m (suc i) = length-aes256 key _
+length-chain w m zero = length-tab 16 _
+length-chain w m (suc i) = length-cipher w _
 
-octets-chain : (key m : List ℕ) (i : ℕ) → Octets key → Octets (chain key m i)
+octets-chain : (w m : List ℕ) (i : ℕ) → Octets w → Octets (chain w m i)
 unfolding chain
-octets-chain key m zero hk = octets-tab 16 _ (λ i h. lit< tt)
-octets-chain key m (suc i) hk = octets-aes256 key _ hk
+octets-chain w m zero hw = octets-tab 16 _ (λ i h. lit< tt)
+octets-chain w m (suc i) hw = octets-cipher w _ hw
 
 pub length-cmac : (key m : List ℕ) → length (cmac key m) ≡ 16
-length-cmac key m = rw cmac-is (length-chain key m (blockCount (length m)))
+length-cmac key m = rw cmac-is (length-chain (keyExpansion key) m (blockCount (length m)))
 
 pub octets-cmac : (key m : List ℕ) → Octets key → Octets (cmac key m)
-octets-cmac key m hk = rw cmac-is (octets-chain key m (blockCount (length m)) hk)
+octets-cmac key m hk = rw cmac-is (octets-chain (keyExpansion key) m (blockCount (length m)) (octets-keyExpansion key hk))

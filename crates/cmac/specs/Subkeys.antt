@@ -1,5 +1,5 @@
--- NIST SP 800-38B, 6.1: the subkeys K1 and K2 of a key K, for AES-256: CIPH_K is `aes256 key`, and a block has b = 128 bits. A block is
--- kept as its sixteen octets, the first bit of the block being the highest bit of the first octet.
+-- NIST SP 800-38B, 6.1: the subkeys K1 and K2 of a key K, for AES-256: CIPH_K is `cipher w` for the expansion w of K, and a block has
+-- b = 128 bits. A block is kept as its sixteen octets, the first bit of the block being the highest bit of the first octet.
 -- Assumes nothing.
 use Prim.Native.Nat.{ℕ, _+_, _*_, _/_, _%_}
 use mathlib.Core.Bool.{cond}
@@ -7,7 +7,7 @@ use mathlib.Core.List.{List, [], _∷_, _++_}
 use lib.Dec.{ltb}
 use Rattle.octets.specs.Lists.{octet, tab}
 use Rattle.octets.specs.Xor.{xors}
-use Rattle.cipher.specs.Cipher.{aes256}
+use Rattle.cipher.specs.Cipher.{cipher}
 
 -- n octets of zeros, 0^(8n)
 abbrev pub zeros : ℕ → List ℕ
@@ -27,12 +27,12 @@ nextSubkey x = cond (ltb (octet x 0) 128) (shifted x) (xors 16 (shifted x) r128)
 
 -- step 1: L, the block of zeros under the cipher, CIPH_K(0^128)
 unfoldable pub ciphered : List ℕ → List ℕ
-ciphered key = aes256 key (zeros 16)
+ciphered w = cipher w (zeros 16)
 
 -- step 2: K1
 unfoldable pub k1 : List ℕ → List ℕ
-k1 key = nextSubkey (ciphered key)
+k1 w = nextSubkey (ciphered w)
 
 -- step 3: K2
 unfoldable pub k2 : List ℕ → List ℕ
-k2 key = nextSubkey (k1 key)
+k2 w = nextSubkey (k1 w)

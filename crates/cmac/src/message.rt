@@ -1,6 +1,7 @@
 // NIST SP 800-38B, 6.2, steps 2 to 4: the blocks of a message. The message is `head` and `body` laid end to end. Blocks are counted from 0
 // here, so that block i is M_(i+1) of the standard.
 use crate::blocks::xor_blocks;
+use octets::octet_at;
 ghost use mathlib.Core.Path.{_≡_};
 ghost use mathlib.Core.List.{_++_};
 ghost use Prim.Native.Nat.{_+_, _*_, _^_, _<_};
@@ -9,17 +10,13 @@ ghost use Rattle.octets.specs.Lists.{octet, tab};
 ghost use Rattle.cmac.specs.Mac.{blockCount, block};
 
 // Octet i of the message, and 0 past its end.
-fn octet_at(head: &[u8], body: &[u8], i: usize) -> u8
+fn message_octet(head: &[u8], body: &[u8], i: usize) -> u8
     ensures { λ r. ⌜ r ≡ octet (now (head .entry) ++ now (body .entry)) i ⌝ }
 {
     if i < head.len() {
         return head[i];
     }
-    let past = i - head.len();
-    if past < body.len() {
-        return body[past];
-    }
-    0
+    octet_at(body, i - head.len())
 }
 
 // Block i as it lies in the message, with zeros past the end. The bound keeps the place of its last octet within a usize.
@@ -30,7 +27,7 @@ fn gathered(head: &[u8], body: &[u8], i: usize) -> [u8; 16]
     let mut out = [0u8; 16];
     let mut j: usize = 0;
     while j < 16 {
-        out[j] = octet_at(head, body, 16 * i + j);
+        out[j] = message_octet(head, body, 16 * i + j);
         j += 1;
     }
     out

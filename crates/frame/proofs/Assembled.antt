@@ -7,9 +7,9 @@ use mathlib.Core.List.{List, _++_, append-assoc}
 use native.Mathlib.Omega.{arith}
 use lib.ListN.{length, take, drop, length-append}
 use lib.Seq.{slice, take-at, drop-at}
-use Rattle.frame.specs.Kinds.{Kind}
+use Rattle.kinds.specs.Kinds.{Kind}
 use Rattle.frame.specs.Parts.{macLength, headerEnd, securityEnd, macStart, trailerStart, securedLength}
-use Rattle.frame.specs.Parts.{headerOf, trailerOf, clearData, securityOf, securedData, macOf}
+use Rattle.frame.specs.Parts.{headerOf, trailerOf, clearContent, securityOf, securedContent, macOf}
 use Rattle.frame.proofs.Room.{length-trailer, length-clear}
 
 -- the part q of p, q, r
@@ -33,7 +33,7 @@ length-assembled header security text mac trailer =
 
 -- securing puts a security header and a MAC between the parts of a clear frame, and lengthens it by these
 pub length-securing : (k : Kind) (clear header security text mac : List ℕ) → k .header clear + k .trailer clear ≤ length clear
-    → length header ≡ k .header clear → length text ≡ length (clearData k clear) → length mac ≡ macLength
+    → length header ≡ k .header clear → length text ≡ length (clearContent k clear) → length mac ≡ macLength
     → length (assembled header security text mac (trailerOf k clear)) ≡ securedLength (length security) clear
 length-securing k clear header security text mac room h t m =
     let a = length-assembled header security text mac (trailerOf k clear) in
@@ -58,8 +58,8 @@ module _ (k : Kind) (header security text mac trailer : List ℕ) where
     before-text : frame ≡ (header ++ security) ++ (text ++ (mac ++ trailer))
     before-text = simp append-assoc
 
-    pub text-read : securedData k (length security) frame ≡ text
-    unfolding securedData
+    pub text-read : securedContent k (length security) frame ≡ text
+    unfolding securedContent
     text-read =
         let n = length-assembled header security text mac trailer in
         let a = length-append header security in

@@ -1,24 +1,17 @@
--- A masked header written to the front of an output, an octet a turn: after i turns the first i octets are its own and the rest stands.
+-- A masked header at the front of an output: the octets that a count of turns writes, and what is left and answered with room and without.
 -- Assumes nothing.
 use mathlib.Core.Path.{_≡_, _∙_, sym, ap}
 use mathlib.Core.List.{List, [], _∷_, _++_}
-use Prim.Native.Nat.{ℕ, zero, suc, _+_, min, _≤_, _<_}
-use native.Mathlib.Nat.{zero-add, zero-min, min-zero, suc-min-suc}
-use native.Mathlib.Numerals.{add-one}
-use native.Mathlib.Omega.{arith}
+use Prim.Native.Nat.{ℕ, zero, suc, min, _≤_, _<_}
+use native.Mathlib.Nat.{zero-min, min-zero, suc-min-suc}
 use borrow.Author.Tests.{le-leb, lt-leb}
-use lib.ListN.{length, set, take, drop, length-take}
-use lib.Seq.{paste-suc}
-use Rattle.octets.specs.Lists.{octet}
-use Rattle.frame.specs.Kinds.{Kind}
+use lib.ListN.{length, take, drop, length-take}
+use Rattle.octets.specs.Output.{fronted}
+use Rattle.kinds.specs.Kinds.{Kind}
 use Rattle.frame.specs.Parts.{headerOf}
-use Rattle.frame.specs.Masked.{masked, maskedHeader, fronted, answered}
+use Rattle.frame.specs.Masked.{masked, maskedHeader, answered}
 use Rattle.frame.specs.declared.masked.Written.the-variants as answer
 use Rattle.frame.proofs.Masking.{length-masked, masked-take}
-
-pub front-more : (text old : List ℕ) (i : ℕ) → i < length text → i < length old
-    → set (take i text ++ drop i old) i (octet text i) ≡ take (i + 1) text ++ drop (i + 1) old
-front-more text old i t o = rw add-one (simp zero-add at (paste-suc old 0 text i 0 (omega arith) t))
 
 take-min : (n : ℕ) (s : List ℕ) → take (min n (length s)) s ≡ take n s
 take-min zero s = rw zero-min

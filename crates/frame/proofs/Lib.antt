@@ -1,7 +1,5 @@
 pub mod Assembled
 pub mod Fronting
-pub mod Kept
 pub mod Masking
-pub mod Order
+pub mod Rebuilt
 pub mod Room
-pub mod Sizes

@@ -10,9 +10,9 @@ use borrow.Author.Tests.{leb-true, le-leb, ltb-false}
 use lib.Dec.{leb}
 use lib.ListN.{length, take, drop, length-drop, take-append-drop}
 use lib.Seq.{slice, length-slice, length-take-le, drop-append-le}
-use Rattle.frame.specs.Kinds.{Kind}
+use Rattle.kinds.specs.Kinds.{Kind}
 use Rattle.frame.specs.Parts.{macLength, headerEnd, securityEnd, macStart, trailerStart, tooShort}
-use Rattle.frame.specs.Parts.{headerOf, trailerOf, clearData, securityOf, securedData, macOf}
+use Rattle.frame.specs.Parts.{headerOf, trailerOf, clearContent, securityOf, securedContent, macOf}
 use Rattle.frame.specs.Rules.{least, obeys}
 
 -- ---- what obeying a kind gives, and what gives it
@@ -72,12 +72,12 @@ module _ (k : Kind) (frame : List ℕ) (room : k .header frame + k .trailer fram
   unfolding trailerOf
   length-trailer = length-drop (trailerStart k frame) frame ∙ omega arith
 
-  pub length-clear : k .header frame + length (clearData k frame) + k .trailer frame ≡ length frame
-  unfolding clearData
+  pub length-clear : k .header frame + length (clearContent k frame) + k .trailer frame ≡ length frame
+  unfolding clearContent
   length-clear = let l = length-slice (headerEnd k frame) (trailerStart k frame) frame (omega arith) in omega arith
 
-  pub clear-whole : headerOf k frame ++ (clearData k frame ++ trailerOf k frame) ≡ frame
-  unfolding headerOf clearData trailerOf
+  pub clear-whole : headerOf k frame ++ (clearContent k frame ++ trailerOf k frame) ≡ frame
+  unfolding headerOf clearContent trailerOf
   clear-whole =
       rw (onward (headerEnd k frame) (trailerStart k frame) frame (omega arith) (omega arith)) (take-append-drop (headerEnd k frame) frame)
 
@@ -94,18 +94,18 @@ module _ (k : Kind) (s : ℕ) (frame : List ℕ) (long : tooShort k s frame ≡ 
   unfolding macOf
   length-mac = let e = enough in length-slice (macStart k frame) (trailerStart k frame) frame (omega arith) ∙ omega arith
 
-  pub length-secured : k .header frame + s + length (securedData k s frame) + macLength + k .trailer frame ≡ length frame
-  unfolding securedData
+  pub length-secured : k .header frame + s + length (securedContent k s frame) + macLength + k .trailer frame ≡ length frame
+  unfolding securedContent
   length-secured =
       let e = enough in
       let l = length-slice (securityEnd k s frame) (macStart k frame) frame (omega arith) in
       omega arith
 
-  pub some-data : 0 < length (securedData k s frame)
+  pub some-data : 0 < length (securedContent k s frame)
   some-data = let e = enough in let l = length-secured in omega arith
 
-  pub secured-whole : headerOf k frame ++ (securityOf k s frame ++ (securedData k s frame ++ (macOf k frame ++ trailerOf k frame))) ≡ frame
-  unfolding headerOf securityOf securedData macOf trailerOf
+  pub secured-whole : headerOf k frame ++ (securityOf k s frame ++ (securedContent k s frame ++ (macOf k frame ++ trailerOf k frame))) ≡ frame
+  unfolding headerOf securityOf securedContent macOf trailerOf
   secured-whole =
       let e = enough in
       rw (

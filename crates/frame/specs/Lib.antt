@@ -1,5 +1,3 @@
-pub mod Fields
-pub mod Kinds
 pub mod Masked
 pub mod Parts
 pub mod Rules

@@ -8,7 +8,7 @@ use mathlib.Core.List.{List}
 use lib.Dec.{ltb}
 use lib.ListN.{length, take, drop}
 use lib.Seq.{slice}
-use Rattle.frame.specs.Kinds.{Kind}
+use Rattle.kinds.specs.Kinds.{Kind}
 use Rattle.frame.specs.declared.parts.ClearParts.{ClearParts}
 use Rattle.frame.specs.declared.parts.SecuredParts.{SecuredParts}
 
@@ -47,16 +47,16 @@ trailerOf k frame = drop (trailerStart k frame) frame
 
 -- ---- those of a clear frame
 
-unfoldable pub clearData : Kind → List ℕ → List ℕ
-clearData k frame = slice (headerEnd k frame) (trailerStart k frame) frame
+unfoldable pub clearContent : Kind → List ℕ → List ℕ
+clearContent k frame = slice (headerEnd k frame) (trailerStart k frame) frame
 
 -- ---- those of a secured frame
 
 unfoldable pub securityOf : Kind → ℕ → List ℕ → List ℕ
 securityOf k s frame = slice (headerEnd k frame) (securityEnd k s frame) frame
 
-unfoldable pub securedData : Kind → ℕ → List ℕ → List ℕ
-securedData k s frame = slice (securityEnd k s frame) (macStart k frame) frame
+unfoldable pub securedContent : Kind → ℕ → List ℕ → List ℕ
+securedContent k s frame = slice (securityEnd k s frame) (macStart k frame) frame
 
 unfoldable pub macOf : Kind → List ℕ → List ℕ
 macOf k frame = slice (macStart k frame) (trailerStart k frame) frame

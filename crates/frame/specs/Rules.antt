@@ -6,7 +6,7 @@ use mathlib.Core.Bool.{Bool, _&&_, cond}
 use mathlib.Core.List.{List}
 use lib.Dec.{leb}
 use lib.ListN.{length}
-use Rattle.frame.specs.Kinds.{Kind}
+use Rattle.kinds.specs.Kinds.{Kind}
 
 -- the least octets between header and trailer: one of clear data; of a secured frame the SPI, which the search for its entry reads
 abbrev pub least : Bool → ℕ

@@ -1,11 +1,12 @@
 // Document 01, 'Frames': the header as the MAC covers it, each octet ANDed with the mask.
-use crate::kinds::Kind;
 use crate::total::lesser;
+use kinds::Kind;
 use octets::octet_at;
 ghost use mathlib.Core.Path.{_≡_};
 ghost use Rattle.octets.specs.Lists.{octet};
-ghost use Rattle.frame.specs.Kinds.{kindIs};
-ghost use Rattle.frame.specs.Masked.{masked, maskedHeader, fronted, answered};
+ghost use Rattle.octets.specs.Output.{fronted};
+ghost use Rattle.kinds.specs.Kinds.{kindIs};
+ghost use Rattle.frame.specs.Masked.{masked, maskedHeader, answered};
 
 // What came of writing to an output: so many octets stand at its front, or it has no room for them and is as it was.
 pub enum Written {

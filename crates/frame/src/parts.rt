@@ -1,9 +1,9 @@
 // Document 01, 'Frames' and 'What comes back', answers 5 and 11: where the parts of a frame lie. `security` is the length of the security
 // header, 6 or 14.
-use crate::kinds::Kind;
 use crate::total::less;
+use kinds::Kind;
 ghost use mathlib.Core.Path.{_≡_};
-ghost use Rattle.frame.specs.Kinds.{kindIs};
+ghost use Rattle.kinds.specs.Kinds.{kindIs};
 ghost use Rattle.frame.specs.Parts.{clearParts, securedParts, securedLength, exceeds, tooShort};
 
 const MAC: usize = 16;

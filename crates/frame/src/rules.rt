@@ -1,9 +1,9 @@
 // Document 01, 'What comes back', answer 3: whether a frame obeys the kind that a number names.
-use crate::kinds::Kind;
-use crate::kinds::Named;
-use crate::kinds::kind_of;
+use kinds::Kind;
+use kinds::Named;
+use kinds::kind_of;
 ghost use mathlib.Core.Path.{_≡_};
-ghost use Rattle.frame.specs.Kinds.{kindIs, kindOf};
+ghost use Rattle.kinds.specs.Kinds.{kindIs, kindOf};
 ghost use Rattle.frame.specs.Rules.{least, obeys};
 
 // The least octets between header and trailer: one of data, or the SPI.
@@ -13,7 +13,7 @@ fn least_between(secured: bool) -> usize
     if secured { 2 } else { 1 }
 }
 
-fn kind_obeyed(kind: Kind, frame: &[u8], secured: bool) -> bool
+pub fn kind_obeyed(kind: Kind, frame: &[u8], secured: bool) -> bool
     ensures { λ r. ⌜ r ≡ obeys (kindIs kind) (now (frame .entry)) secured ⌝ }
 {
     let least = kind.header_length(frame) + least_between(secured) + kind.trailer_length(frame);

@@ -2,12 +2,6 @@
 ghost use mathlib.Core.Path.{_≡_};
 ghost use Prim.Native.Nat.{_-_, min};
 
-pub(crate) fn wide(x: u8) -> u16
-    ensures { λ r. ⌜ r ≡ x ⌝ }
-{
-    x as u16
-}
-
 // a less b, and 0 where b is the greater.
 pub(crate) fn less(a: usize, b: usize) -> usize
     ensures { λ r. ⌜ r ≡ a - b ⌝ }

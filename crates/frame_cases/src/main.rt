@@ -1,21 +1,52 @@
 // Runs frames of each kind, well formed and malformed, and writes for each a line of every answer that the crate `frame` gives on it.
 // tools/frame_cases.py makes the frames and the expected answers from the paper alone.
 mod answers;
-mod lines;
 
+use answers::Case;
 use answers::print_answers;
-use lines::read_case;
+use libc::STDIN_FILENO;
+use lines::print;
+use lines::read_line;
+use lines::read_octets;
+use octets::two_at;
+
+// A line is 18 octets in hexadecimal. The first six: kind, 1 if secured and else 0, length of the security header, octets of the mask
+// that are used, length of the frame in two octets.
+fn case_of(line: &[u8]) -> Case {
+    let mut octets = [0u8; 6];
+    read_octets(line, &mut octets);
+    Case {
+        kind: octets[0],
+        is_secured: octets[1] == 1,
+        security: octets[2],
+        reach: octets[3],
+        length: two_at(&octets, 4) as usize,
+    }
+}
+
+// Whether there was a line. Its other octets are the first six of the frame, whose others are 0, and six of mask. The room is for the
+// longest frame of the cases.
+fn run_line() -> bool {
+    let mut line = [0u8; 37];
+    if read_line(STDIN_FILENO, &mut line) < 37 {
+        return false;
+    }
+    let mut whole = [0u8; 4096];
+    let mut mask = [0u8; 6];
+    read_octets(&line[12..24], &mut whole);
+    read_octets(&line[24..36], &mut mask);
+    print_answers(case_of(&line), &mask, &mut whole);
+    print(b"\n");
+    true
+}
 
 // A proved loop has to end, and nothing says that the input does: the bound is a number of lines that it does not have.
 fn main() {
     let mut n: usize = 0;
     while n < 65536 {
-        let case = read_case();
-        if !case.is_read {
+        if !run_line() {
             return;
         }
-        let octets = case.octets;
-        print_answers(octets);
         n += 1;
     }
 }

@@ -1,7 +1,3 @@
-pub mod Counting
-pub mod Examples
-pub mod Halves
-pub mod Hashing
 pub mod Laws
-pub mod Linear
+pub mod Made
 pub mod Tagging

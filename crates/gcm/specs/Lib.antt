@@ -1,11 +1,4 @@
 pub mod Calls
 pub mod Decryption
 pub mod Encryption
-pub mod Gctr
-pub mod Ghash
-pub mod Halves
-pub mod Increment
 pub mod Lengths
-pub mod Output
-pub mod Product
-pub mod Table

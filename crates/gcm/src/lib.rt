@@ -1,17 +1,15 @@
 // GCM (SP 800-38D) with AES-256, an IV of 96 bits and a tag of 128 bits. What a call answers and leaves in its output is given, from the
-// values at its entry, by a definition of specs/Calls. `decrypt` looks at no tag: it is for a caller that has had `Right` of `check`.
-mod block;
-mod gctr;
-mod ghash;
-mod product;
+// values at its entry, by a definition of specs/Calls. A caller that uses a key more than once expands it once, and takes the functions under
+// an expanded key. `decrypt` looks at no tag: it is for a caller that has had `Right` of `check`.
 mod steps;
 
+use cipher::expand_key;
 use steps::crypt;
 use steps::make_tag;
 use steps::tag_is;
 ghost use mathlib.Core.Path.{_≡_};
 ghost use Rattle.gcm.specs.Lengths.{textTooLong, tooLong};
-ghost use Rattle.gcm.specs.Calls.{call, sealed, checked, decrypted, opened};
+ghost use Rattle.gcm.specs.Calls.{call, sealedUnder, sealed, checkedUnder, checked, decryptedUnder, decrypted, opened};
 
 // 5.2.1.1, in octets: a text has at most (2^39 - 256) / 8.
 const MOST_TEXT: usize = 0xf_ffff_ffe0;
@@ -59,8 +57,14 @@ fn too_long(additional: &[u8], text: &[u8]) -> bool
 }
 
 // 7.1: the ciphertext to the front of out, and the tag.
-pub fn seal(key: [u8; 32], iv: [u8; 12], additional: &[u8], plain: &[u8], out: &mut [u8]) -> Sealed
-    ensures { λ r. ⌜ call r (now (out .exit)) ≡ sealed key iv (now (additional .entry)) (now (plain .entry)) (now (out .entry)) ⌝ }
+pub fn seal_under(
+    expanded: &[u8; 240],
+    iv: [u8; 12],
+    additional: &[u8],
+    plain: &[u8],
+    out: &mut [u8],
+) -> Sealed
+    ensures { λ r. ⌜ call r (now (out .exit)) ≡ sealedUnder (now (expanded .entry)) iv (now (additional .entry)) (now (plain .entry)) (now (out .entry)) ⌝ }
 {
     if too_long(additional, plain) {
         return Sealed {
@@ -75,16 +79,41 @@ pub fn seal(key: [u8; 32], iv: [u8; 12], additional: &[u8], plain: &[u8], out: &
             tag: [0; 16],
         };
     }
-    let expanded = cipher::expand_key(key);
-    crypt(&expanded, iv, plain, out);
-    let tag = make_tag(&expanded, iv, additional, &out[..n]);
+    crypt(expanded, iv, plain, out);
+    let tag = make_tag(expanded, iv, additional, &out[..n]);
     Sealed {
         answer: Answer::Done,
         tag,
     }
 }
 
+pub fn seal(key: [u8; 32], iv: [u8; 12], additional: &[u8], plain: &[u8], out: &mut [u8]) -> Sealed
+    ensures { λ r. ⌜ call r (now (out .exit)) ≡ sealed key iv (now (additional .entry)) (now (plain .entry)) (now (out .entry)) ⌝ }
+{
+    let expanded = expand_key(key);
+    seal_under(&expanded, iv, additional, plain, out)
+}
+
 // 7.2 but for step 4: whether the tag is the ciphertext's.
+pub fn check_under(
+    expanded: &[u8; 240],
+    iv: [u8; 12],
+    additional: &[u8],
+    ciphertext: &[u8],
+    tag: [u8; 16],
+) -> Checked
+    ensures { λ r. ⌜ r ≡ checkedUnder (now (expanded .entry)) iv (now (additional .entry)) (now (ciphertext .entry)) tag ⌝ }
+{
+    if too_long(additional, ciphertext) {
+        return Checked::TooLong;
+    }
+    if tag_is(expanded, iv, additional, ciphertext, tag) {
+        Checked::Right
+    } else {
+        Checked::Wrong
+    }
+}
+
 pub fn check(
     key: [u8; 32],
     iv: [u8; 12],
@@ -94,20 +123,18 @@ pub fn check(
 ) -> Checked
     ensures { λ r. ⌜ r ≡ checked key iv (now (additional .entry)) (now (ciphertext .entry)) tag ⌝ }
 {
-    if too_long(additional, ciphertext) {
-        return Checked::TooLong;
-    }
-    let expanded = cipher::expand_key(key);
-    if tag_is(&expanded, iv, additional, ciphertext, tag) {
-        Checked::Right
-    } else {
-        Checked::Wrong
-    }
+    let expanded = expand_key(key);
+    check_under(&expanded, iv, additional, ciphertext, tag)
 }
 
 // 7.2, step 4: the plaintext to the front of out, for a caller that has seen the tag to be right.
-pub fn decrypt(key: [u8; 32], iv: [u8; 12], ciphertext: &[u8], out: &mut [u8]) -> Answer
-    ensures { λ r. ⌜ call r (now (out .exit)) ≡ decrypted key iv (now (ciphertext .entry)) (now (out .entry)) ⌝ }
+pub fn decrypt_under(
+    expanded: &[u8; 240],
+    iv: [u8; 12],
+    ciphertext: &[u8],
+    out: &mut [u8],
+) -> Answer
+    ensures { λ r. ⌜ call r (now (out .exit)) ≡ decryptedUnder (now (expanded .entry)) iv (now (ciphertext .entry)) (now (out .entry)) ⌝ }
 {
     if text_too_long(ciphertext) {
         return Answer::TooLong;
@@ -115,9 +142,15 @@ pub fn decrypt(key: [u8; 32], iv: [u8; 12], ciphertext: &[u8], out: &mut [u8]) -
     if out.len() < ciphertext.len() {
         return Answer::NoRoom;
     }
-    let expanded = cipher::expand_key(key);
-    crypt(&expanded, iv, ciphertext, out);
+    crypt(expanded, iv, ciphertext, out);
     Answer::Done
+}
+
+pub fn decrypt(key: [u8; 32], iv: [u8; 12], ciphertext: &[u8], out: &mut [u8]) -> Answer
+    ensures { λ r. ⌜ call r (now (out .exit)) ≡ decrypted key iv (now (ciphertext .entry)) (now (out .entry)) ⌝ }
+{
+    let expanded = expand_key(key);
+    decrypt_under(&expanded, iv, ciphertext, out)
 }
 
 // 7.2: the plaintext to the front of out if the tag is right; if it is not, out stays as it was.
@@ -134,7 +167,7 @@ pub fn open(
     if too_long(additional, ciphertext) {
         return Outcome::TooLong;
     }
-    let expanded = cipher::expand_key(key);
+    let expanded = expand_key(key);
     if !tag_is(&expanded, iv, additional, ciphertext, tag) {
         return Outcome::Wrong;
     }

@@ -3,7 +3,7 @@
 use Prim.Native.Nat.{ℕ, _<_}
 use mathlib.Core.Path.{_≡_, refl}
 use mathlib.Core.Bool.{Bool, true, false}
-use mathlib.Core.List.{List, [], _∷_}
+use mathlib.Core.List.{List, [], _∷_, _++_}
 use native.Mathlib.Omega.{arith}
 use Rattle.link.specs.Answers.{Test, first}
 
@@ -11,10 +11,22 @@ pub none-left : first [] ≡ 0
 unfolding first
 none-left = refl
 
+-- a test that applies gives its number
+pub applies : (n : ℕ) (b : Bool) (ts : List Test) → b ≡ true → first ((n, b) ∷ ts) ≡ n
+unfolding first
+applies n b ts e = rw e
+
 -- a test that does not apply leaves the answer to those behind it
 pub passes : (n : ℕ) (b : Bool) (ts : List Test) → b ≡ false → first ((n, b) ∷ ts) ≡ first ts
 unfolding first
 passes n b ts e = rw e
+
+-- tests in two parts: where the first part refuses, the second is not asked
+pub stops : (ts us : List Test) → 0 < first ts → first (ts ++ us) ≡ first ts
+unfolding first
+stops [] us h = absurd (omega arith)
+stops ((n, true) ∷ ts) us h = refl
+stops ((n, false) ∷ ts) us h = stops ts us h
 
 -- 0 means that a test does not apply, and that none behind it does
 pub passed : (n : ℕ) (b : Bool) (ts : List Test) → 0 < n → first ((n, b) ∷ ts) ≡ 0 → (b ≡ false) × (first ts ≡ 0)

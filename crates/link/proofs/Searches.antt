@@ -7,7 +7,7 @@ use mathlib.Core.Bool.{true, false}
 use mathlib.Core.List.{List}
 use native.Mathlib.Omega.{arith}
 use Rattle.association.specs.Association.{associationOf, one, none, isNone, theOne, matchAt, matching, indexOf}
-use Rattle.association.specs.Image.{countOf}
+use Rattle.image.specs.Image.{countOf}
 use Rattle.association.specs.Search.{matches, entryFor}
 use Rattle.association.specs.declared.search.Found.{Found}
 use Rattle.association.specs.declared.search.Found.the-variants as found

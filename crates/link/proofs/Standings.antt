@@ -5,7 +5,7 @@ use mathlib.Core.Path.{_≡_, refl, ap}
 use mathlib.Core.Bool.{Bool, true, false, cond}
 use mathlib.Core.List.{List}
 use native.Mathlib.Omega.{arith}
-use Rattle.association.specs.Image.{validImage}
+use Rattle.image.specs.Image.{validImage}
 use Rattle.association.specs.Numbers.{agrees, standingNumber, loadStanding, standingOf}
 use Rattle.association.specs.declared.numbers.Standing.{Standing}
 use Rattle.association.specs.declared.numbers.Standing.the-variants as standing

@@ -17,8 +17,11 @@ pub record Reported : Type 0 where
 abbrev pub refusal : ℕ → Reported
 refusal n = record { number = n; length = 0; stores = 0 }
 
+abbrev pub granted : ℕ → ℕ → Reported
+granted length stores = record { number = 0; length = length; stores = stores }
+
 abbrev pub reported : Answer → Reported
-reported (answer.Done length stores) = record { number = 0; length = length; stores = stores }
+reported (answer.Done length stores) = granted length stores
 reported answer.BadImage = refusal 1
 reported answer.BadMarks = refusal 2
 reported answer.BadFrame = refusal 3

@@ -6,16 +6,16 @@ use mathlib.Core.Bool.{Bool, cond}
 use mathlib.Core.List.{List, [], _++_}
 use lib.Dec.{eqb}
 use lib.ListN.{length, set, take, drop}
-use Rattle.frame.specs.Kinds.{kindOf}
 use Rattle.association.specs.Association.{heldIn, theOne, indexOf}
-use Rattle.association.specs.Image.{validImage}
+use Rattle.image.specs.Image.{validImage}
 use Rattle.association.specs.Numbers.{loadedNumbers}
 use Rattle.association.specs.Search.{entryFor}
-use Rattle.association.specs.Stores.{afterStores}
+use Rattle.marks.specs.Stores.{stored}
 use Rattle.association.specs.declared.search.Wanted.{Wanted}
 use Rattle.link.specs.Answers.{reported}
-use Rattle.link.specs.Protection.{spiIn, macRight}
-use Rattle.link.specs.Replies.{seen, Reply, securing, checking}
+use Rattle.protection.specs.Protection.{spiIn, macRight}
+use Rattle.link.specs.Replies.{seen, Reply, raising, securing, checking}
+use Rattle.link.specs.Said.{Said, kindSaid}
 use Rattle.link.specs.declared.answers.Outcome.{Outcome}
 
 -- ---- everything that a call leaves
@@ -44,24 +44,24 @@ leaving r image output =
 abbrev pub refused : ℕ → List ℕ → List ℕ → List ℕ → Left
 refused n image last output = record { answer = n; length = 0; stores = 0; image = image; numbers = last; output = output }
 
--- a reply carried out at entry e: the mark, the number, then the result at the start of the output, whose rest stays
-abbrev pub done : Reply → ℕ → List ℕ → List ℕ → List ℕ → Left
-done r e image last output =
+-- a reply carried out: the stores, the number, then the result at the start of the output, whose rest stays
+abbrev pub done : Reply → List ℕ → List ℕ → List ℕ → Left
+done r image last output =
     record {
       answer = 0;
       length = r .size;
-      stores = r .stores;
-      image = afterStores image e (r .number) (r .stores);
-      numbers = set last e (r .number);
+      stores = length (r .stores);
+      image = stored image (r .stores);
+      numbers = set last (r .entry) (r .number);
       output = r .result ++ drop (r .size) output;
     }
 
-abbrev pub left : Reply → ℕ → List ℕ → List ℕ → List ℕ → Left
-left r e image last output = cond (eqb (r .answer) 0) (done r e image last output) (refused (r .answer) image last output)
+abbrev pub left : Reply → List ℕ → List ℕ → List ℕ → Left
+left r image last output = cond (eqb (r .answer) 0) (done r image last output) (refused (r .answer) image last output)
 
 -- the image where the call is cut after j stores; a refusal makes none
-abbrev pub cut : Reply → ℕ → List ℕ → ℕ → List ℕ
-cut r e image j = cond (eqb (r .answer) 0) (afterStores image e (r .number) j) image
+abbrev pub cut : Reply → List ℕ → ℕ → List ℕ
+cut r image j = cond (eqb (r .answer) 0) (stored image (take j (r .stores))) image
 
 -- the part of the output that the call filled: the frame handed out, or the data released
 abbrev pub handed : Left → List ℕ
@@ -75,15 +75,15 @@ sending = 1
 abbrev pub receiving : ℕ
 receiving = 2
 
-unfoldable pub wanted : ℕ → ℕ → ℕ → List ℕ → Wanted
-wanted spi direction kind frame =
+unfoldable pub wanted : ℕ → ℕ → Said → List ℕ → Wanted
+wanted spi direction said frame =
     record {
       spi = spi;
       direction = direction;
-      kind = kind;
-      spacecraft = kindOf kind .spacecraft frame;
-      channel = kindOf kind .channel frame;
-      map = kindOf kind .map frame;
+      kind = said .kind;
+      spacecraft = kindSaid said .spacecraft frame;
+      channel = kindSaid said .channel frame;
+      map = kindSaid said .map frame;
     }
 
 -- ---- load: every load is a restart; it stores nothing
@@ -94,51 +94,54 @@ loaded image last =
     (record { answer = 0; length = 0; stores = 0; image = image; numbers = loadedNumbers image; output = [] })
     (refused 1 image last [])
 
--- ---- securing: image, numbers, kind, SPI, clear frame, output
+-- ---- securing: image, numbers, what is said of the frame, SPI, clear frame, output
 
-abbrev pub securingWants : ℕ → ℕ → List ℕ → Wanted
-securingWants kind spi frame = wanted spi sending kind frame
+abbrev pub securingWants : Said → ℕ → List ℕ → Wanted
+securingWants said spi frame = wanted spi sending said frame
 
-abbrev pub securingEntry : List ℕ → ℕ → ℕ → List ℕ → ℕ
-securingEntry image kind spi frame = indexOf (entryFor image (securingWants kind spi frame))
+abbrev pub securingEntry : List ℕ → Said → ℕ → List ℕ → ℕ
+securingEntry image said spi frame = indexOf (entryFor image (securingWants said spi frame))
 
-unfoldable pub securingReply : List ℕ → List ℕ → ℕ → ℕ → List ℕ → List ℕ → Reply
-securingReply image last kind spi frame output = securing (seen image last (securingWants kind spi frame)) kind spi frame (length output)
+-- with that much room in the output
+unfoldable pub securingReply : List ℕ → List ℕ → Said → ℕ → List ℕ → ℕ → Reply
+securingReply image last said spi frame room =
+    raising image (securingEntry image said spi frame) (securing (seen image last (securingWants said spi frame)) said spi frame room)
 
-unfoldable pub secured : List ℕ → List ℕ → ℕ → ℕ → List ℕ → List ℕ → Left
-secured image last kind spi frame output =
-    left (securingReply image last kind spi frame output) (securingEntry image kind spi frame) image last output
+unfoldable pub secured : List ℕ → List ℕ → Said → ℕ → List ℕ → List ℕ → Left
+secured image last said spi frame output =
+    left (securingReply image last said spi frame (length output)) image last output
 
-unfoldable pub securedCut : List ℕ → List ℕ → ℕ → ℕ → List ℕ → List ℕ → ℕ → List ℕ
-securedCut image last kind spi frame output j =
-    cut (securingReply image last kind spi frame output) (securingEntry image kind spi frame) image j
+unfoldable pub securedCut : List ℕ → List ℕ → Said → ℕ → List ℕ → List ℕ → ℕ → List ℕ
+securedCut image last said spi frame output j =
+    cut (securingReply image last said spi frame (length output)) image j
 
--- ---- checking: image, numbers, kind, secured frame, output
+-- ---- checking: image, numbers, what is said of the frame, secured frame, output
 
-abbrev pub checkingWants : ℕ → List ℕ → Wanted
-checkingWants kind frame = wanted (spiIn (kindOf kind) frame) receiving kind frame
+abbrev pub checkingWants : Said → List ℕ → Wanted
+checkingWants said frame = wanted (spiIn (kindSaid said) frame) receiving said frame
 
-abbrev pub checkingEntry : List ℕ → ℕ → List ℕ → ℕ
-checkingEntry image kind frame = indexOf (entryFor image (checkingWants kind frame))
+abbrev pub checkingEntry : List ℕ → Said → List ℕ → ℕ
+checkingEntry image said frame = indexOf (entryFor image (checkingWants said frame))
 
 -- how the comparison of the MAC falls out under the association that matches
-unfoldable pub comparison : List ℕ → List ℕ → ℕ → List ℕ → Bool
-comparison image last kind frame = macRight (heldIn (theOne (seen image last (checkingWants kind frame) .found))) (kindOf kind) frame
+unfoldable pub comparison : List ℕ → List ℕ → Said → List ℕ → Bool
+comparison image last said frame = macRight (heldIn (theOne (seen image last (checkingWants said frame) .found))) (kindSaid said) frame
 
-unfoldable pub checkingReply : Bool → List ℕ → List ℕ → ℕ → List ℕ → List ℕ → Reply
-checkingReply right image last kind frame output = checking (seen image last (checkingWants kind frame)) right kind frame (length output)
+unfoldable pub checkingReply : Bool → List ℕ → List ℕ → Said → List ℕ → ℕ → Reply
+checkingReply right image last said frame room =
+    raising image (checkingEntry image said frame) (checking (seen image last (checkingWants said frame)) right said frame room)
 
 -- where the comparison falls out so
-unfoldable pub checkedAs : Bool → List ℕ → List ℕ → ℕ → List ℕ → List ℕ → Left
-checkedAs right image last kind frame output =
-    left (checkingReply right image last kind frame output) (checkingEntry image kind frame) image last output
+unfoldable pub checkedAs : Bool → List ℕ → List ℕ → Said → List ℕ → List ℕ → Left
+checkedAs right image last said frame output =
+    left (checkingReply right image last said frame (length output)) image last output
 
-unfoldable pub checkedCutAs : Bool → List ℕ → List ℕ → ℕ → List ℕ → List ℕ → ℕ → List ℕ
-checkedCutAs right image last kind frame output j =
-    cut (checkingReply right image last kind frame output) (checkingEntry image kind frame) image j
+unfoldable pub checkedCutAs : Bool → List ℕ → List ℕ → Said → List ℕ → List ℕ → ℕ → List ℕ
+checkedCutAs right image last said frame output j =
+    cut (checkingReply right image last said frame (length output)) image j
 
-unfoldable pub checked : List ℕ → List ℕ → ℕ → List ℕ → List ℕ → Left
-checked image last kind frame output = checkedAs (comparison image last kind frame) image last kind frame output
+unfoldable pub checked : List ℕ → List ℕ → Said → List ℕ → List ℕ → Left
+checked image last said frame output = checkedAs (comparison image last said frame) image last said frame output
 
-unfoldable pub checkedCut : List ℕ → List ℕ → ℕ → List ℕ → List ℕ → ℕ → List ℕ
-checkedCut image last kind frame output j = checkedCutAs (comparison image last kind frame) image last kind frame output j
+unfoldable pub checkedCut : List ℕ → List ℕ → Said → List ℕ → List ℕ → ℕ → List ℕ
+checkedCut image last said frame output j = checkedCutAs (comparison image last said frame) image last said frame output j

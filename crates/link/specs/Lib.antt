@@ -1,6 +1,5 @@
 pub mod Answers
 pub mod Calls
-pub mod Protection
 pub mod Replies
-pub mod Services
+pub mod Said
 pub mod Steps

@@ -1,19 +1,22 @@
 -- Document 01, 'What comes back': what securing and checking decide before they store or write anything.
 -- Assumes nothing.
-use Prim.Native.Nat.{ℕ, _+_, _-_, _/_}
+use Prim.Native.Nat.{ℕ, _+_}
 use mathlib.Core.Bool.{Bool, true, false, not}
-use mathlib.Core.List.{List, [], _∷_}
+use mathlib.Core.List.{List, [], _∷_, _++_}
 use lib.Dec.{ltb}
-use Rattle.frame.specs.Kinds.{kindOf}
+use Rattle.kinds.specs.Kinds.{Kind}
 use Rattle.frame.specs.Parts.{exceeds, tooShort}
 use Rattle.frame.specs.Rules.{obeys}
-use Rattle.association.specs.Association.{Association, heldIn, Match, isNone, theOne, matching}
-use Rattle.association.specs.Body.{markOf}
-use Rattle.association.specs.Image.{validImage}
+use Rattle.association.specs.Association.{heldIn, Match, isNone, theOne, matching}
+use Rattle.image.specs.Image.{validImage}
 use Rattle.association.specs.Numbers.{agrees, accepts, spent}
+use Rattle.association.specs.Stores.{storesFor}
+use Rattle.marks.specs.declared.plans.Store.{Store}
+use Rattle.association.specs.declared.held.Held.{Held}
 use Rattle.association.specs.declared.search.Wanted.{Wanted}
 use Rattle.link.specs.Answers.{Test, first}
-use Rattle.link.specs.Protection.{securityLength, securedLength, securedFrame, numberIn, clearLength, clearData}
+use Rattle.protection.specs.Protection.{securityLength, securedLength, securedFrame, numberIn, clearLength, clearData}
+use Rattle.link.specs.Said.{Said, kindSaid}
 
 -- what a call sees of an image and its numbers: whether every rule holds, whether they agree, and the association that matches
 pub record Seen : Type 0 where
@@ -24,76 +27,99 @@ pub record Seen : Type 0 where
 unfoldable pub seen : List ℕ → List ℕ → Wanted → Seen
 seen image last w = record { valid = validImage image; agree = agrees image last; found = matching image last w }
 
--- the answer and, where it is 0: the number that is used, the octet stores that raise the mark to it, the length of the result, and the result
-pub record Reply : Type 0 where
+-- what is decided from that alone: the answer and, where it is 0, the number that is used, the length of the result, and the result
+pub record Decision : Type 0 where
   pub answer : ℕ
   pub number : ℕ
-  pub stores : ℕ
   pub size : ℕ
   pub result : List ℕ
 
--- new mark less old
-abbrev pub storesTo : Association → ℕ → ℕ
-storesTo a n = n / 64 - markOf (a .version) (a .body)
+-- a call decided, and not yet carried out: the answer and, where it is 0, the entry that is used and its new number, the octet stores in
+-- their order, the length of the result, and the result
+pub record Reply : Type 0 where
+  pub answer : ℕ
+  pub entry : ℕ
+  pub number : ℕ
+  pub stores : List Store
+  pub size : ℕ
+  pub result : List ℕ
+
+-- sending and checking store what raises the mark of their entry to that of the number
+abbrev pub raising : List ℕ → ℕ → Decision → Reply
+raising image e d =
+    record {
+      answer = d .answer;
+      entry = e;
+      number = d .number;
+      stores = storesFor image e (d .number);
+      size = d .size;
+      result = d .result;
+    }
+
+-- ---- the tests that come first in both
+
+abbrev pub frontTests : Seen → Kind → List ℕ → Bool → List Test
+frontTests see k frame secured =
+    (1, not (see .valid))
+    ∷ (2, not (see .agree))
+    ∷ (3, not (obeys k frame secured))
+    ∷ (4, isNone (see .found))
+    ∷ []
 
 -- ---- securing a clear frame, with that much room in the output
 
-unfoldable pub securingTests : Seen → ℕ → List ℕ → ℕ → List Test
-securingTests see kind frame room =
-    let k = kindOf kind in
-    let a = theOne (see .found) in
-    let h = heldIn a in
-    (1, not (see .valid))
-    ∷ (2, not (see .agree))
-    ∷ (3, not (obeys k frame false))
-    ∷ (4, isNone (see .found))
-    ∷ (11, exceeds k (securityLength h) frame)
+-- under what the association that matches holds, after the last number that it used
+abbrev pub sendingTests : Held → ℕ → Kind → List ℕ → ℕ → List Test
+sendingTests h last k frame room =
+    (11, exceeds k (securityLength h) frame)
     ∷ (6, ltb room (securedLength h frame))
-    ∷ (10, spent (a .number))
+    ∷ (10, spent last)
     ∷ []
 
+unfoldable pub securingTests : Seen → Said → List ℕ → ℕ → List Test
+securingTests see said frame room =
+    let a = theOne (see .found) in
+    frontTests see (kindSaid said) frame false ++ sendingTests (heldIn a) (a .number) (kindSaid said) frame room
+
 -- sending uses last + 1
-unfoldable pub securing : Seen → ℕ → ℕ → List ℕ → ℕ → Reply
-securing see kind spi frame room =
+unfoldable pub securing : Seen → Said → ℕ → List ℕ → ℕ → Decision
+securing see said spi frame room =
     let a = theOne (see .found) in
     let h = heldIn a in
     let n = a .number + 1 in
     record {
-      answer = first (securingTests see kind frame room);
+      answer = first (securingTests see said frame room);
       number = n;
-      stores = storesTo a n;
       size = securedLength h frame;
-      result = securedFrame h (kindOf kind) spi n frame;
+      result = securedFrame h (kindSaid said) spi n frame;
     }
 
 -- ---- checking a secured frame; `right` is how the comparison of its MAC falls out. No security header of the base has a pad length, so no
 -- frame states fill, and 9 never applies
 
-unfoldable pub checkingTests : Seen → Bool → ℕ → List ℕ → ℕ → List Test
-checkingTests see right kind frame room =
-    let k = kindOf kind in
-    let a = theOne (see .found) in
-    let h = heldIn a in
-    (1, not (see .valid))
-    ∷ (2, not (see .agree))
-    ∷ (3, not (obeys k frame true))
-    ∷ (4, isNone (see .found))
-    ∷ (5, tooShort k (securityLength h) frame)
+-- under what the association that matches holds, after the last number that it used
+abbrev pub receivingTests : Held → ℕ → Bool → Kind → List ℕ → ℕ → List Test
+receivingTests h last right k frame room =
+    (5, tooShort k (securityLength h) frame)
     ∷ (9, false)
     ∷ (6, ltb room (clearLength h k frame))
     ∷ (7, not right)
-    ∷ (8, not (accepts (a .number) (h .window) (numberIn h k frame)))
+    ∷ (8, not (accepts last (h .window) (numberIn h k frame)))
     ∷ []
 
-unfoldable pub checking : Seen → Bool → ℕ → List ℕ → ℕ → Reply
-checking see right kind frame room =
+unfoldable pub checkingTests : Seen → Bool → Said → List ℕ → ℕ → List Test
+checkingTests see right said frame room =
+    let a = theOne (see .found) in
+    frontTests see (kindSaid said) frame true ++ receivingTests (heldIn a) (a .number) right (kindSaid said) frame room
+
+unfoldable pub checking : Seen → Bool → Said → List ℕ → ℕ → Decision
+checking see right said frame room =
     let a = theOne (see .found) in
     let h = heldIn a in
-    let n = numberIn h (kindOf kind) frame in
+    let n = numberIn h (kindSaid said) frame in
     record {
-      answer = first (checkingTests see right kind frame room);
+      answer = first (checkingTests see right said frame room);
       number = n;
-      stores = storesTo a n;
-      size = clearLength h (kindOf kind) frame;
-      result = clearData h (kindOf kind) frame;
+      size = clearLength h (kindSaid said) frame;
+      result = clearData h (kindSaid said) frame;
     }

@@ -1,38 +1,108 @@
-// Document 01, 'What comes back': checking, its tests in the paper's order, 1, 2, 3, 4, 5, 9, 6, 7, 8; then the mark, then the output. No
-// security header has a pad length, so no frame is answered by 9.
+// Document 01, 'What comes back': a secured frame under the entry that matches, 5, 9, 6, 7 and 8 in the paper's order, and how its data is
+// released. No security header has a pad length, so no frame is answered by 9.
 use crate::answers::Answer;
 use crate::answers::Outcome;
 use crate::answers::refused;
-use crate::checked::clear_length;
-use crate::checked::mac_right;
-use crate::checked::number_of;
-use crate::checked::release_data;
-use crate::sequence::accepts;
-use crate::sequence::security_length;
-use crate::wanted::RECEIVING;
-use crate::wanted::wanted_by;
-use association::Found;
+use crate::verdict::Grant;
+use crate::verdict::Verdict;
+use crate::verdict::carried_out;
+use crate::window::accepts;
 use association::Numbers;
-use association::find;
 use association::held_at;
-use association::raise;
-use frame::Kind;
-use frame::obeys;
+use association::plan_for;
 use frame::too_short;
+use kinds::Kind;
+use kinds::Named;
+use marks::make_all;
 use octets::two_at;
+use protection::Opening;
+use protection::clear_length;
+use protection::mac_right;
+use protection::number_of;
+use protection::opening_of;
+use protection::release_data;
+use protection::security_length;
 ghost use mathlib.Core.Path.{_≡_};
 ghost use mathlib.Core.Bool.{true};
-ghost use Prim.Native.Nat.{ℕ, _<_};
-ghost use Rattle.frame.specs.Kinds.{kindIs, kindOf};
+ghost use Prim.Native.Nat.{_≤_};
+ghost use lib.ListN.{length, set};
+ghost use Rattle.octets.specs.Output.{written};
+ghost use Rattle.kinds.specs.Kinds.{kindIs, kindBehind};
 ghost use Rattle.frame.specs.Rules.{obeys};
-ghost use Rattle.association.specs.Image.{countOf, validImage};
-ghost use Rattle.association.specs.Numbers.{agrees};
-ghost use Rattle.link.specs.Calls.{leaving, checked};
-ghost use Rattle.link.specs.Steps.{checkedUnder};
+ghost use Rattle.marks.specs.Stores.{storesIn};
+ghost use Rattle.protection.specs.Protection.{spiIn, clearData, clearLength};
+ghost use Rattle.protection.specs.Steps.{openingOf, Opens};
+ghost use Rattle.link.specs.Answers.{reported, granted};
+ghost use Rattle.link.specs.Calls.{leaving, left};
+ghost use Rattle.link.specs.Steps.{Judged, receivingJudged, receivingReply};
 
-// Checking under the entry that matches: what is left to test is 5, 6, 7 and 8. The MAC is judged before the window, and nothing is decrypted
-// before both are past.
-fn check_under(
+// The SPI on a secured frame; a number that names no kind has no header before it.
+pub(crate) fn spi_on(asked: Named, frame: &[u8]) -> u16
+    ensures { λ r. ⌜ r ≡ spiIn (kindBehind asked) (now (frame .entry)) ⌝ }
+{
+    match asked {
+        Named::Kind(kind) => two_at(frame, kind.header_length(frame)),
+        Named::Nothing => two_at(frame, 0),
+    }
+}
+
+// Whether the data is released, after the last number used. The MAC is judged before the window. Nothing is changed, and nothing decrypted.
+fn judge_receiving(
+    image: &[u8],
+    entry: u8,
+    last: u32,
+    opening: Opening,
+    frame: &[u8],
+    room: usize,
+) -> Verdict
+    requires { ⌜ (obeys (kindIs (opening .kind)) (now frame) true ≡ true) × (opening ≡ openingOf (opening .kind) (opening .held) (now frame)) ⌝ }
+    ensures { λ r. ⌜ Judged r (receivingJudged (now (image .entry)) entry (opening .held) last (kindIs (opening .kind)) (now (frame .entry)) room) ⌝ }
+{
+    let kind = opening.kind;
+    let held = opening.held;
+    if too_short(kind, security_length(held.service), frame) {
+        return Verdict::Refused(Answer::TooShort);
+    }
+    let size = clear_length(opening, frame);
+    if room < size {
+        return Verdict::Refused(Answer::NoRoom);
+    }
+    if !mac_right(opening, frame) {
+        return Verdict::Refused(Answer::WrongMac);
+    }
+    let sequence = number_of(opening, frame);
+    if !accepts(last, held.window, sequence) {
+        return Verdict::Refused(Answer::OutsideWindow);
+    }
+    let number = sequence.number;
+    Verdict::Granted(Grant {
+        entry,
+        number,
+        plan: plan_for(image, entry, number),
+        size,
+    })
+}
+
+// The data is released behind its stores: `made` is how many of them were made, and has to be all.
+fn release(
+    grant: Grant,
+    made: u32,
+    numbers: Numbers,
+    opening: Opening,
+    frame: &[u8],
+    output: &mut [u8],
+) -> Outcome
+    requires { ⌜ made ≡ storesIn (grant .plan) ⌝ }
+    requires { ⌜ Opens opening (now frame) × (clearLength (opening .held) (kindIs (opening .kind)) (now frame) ≤ length (now output)) ⌝ }
+    ensures { λ r. ⌜ (reported (r .answer) ≡ granted (grant .size) (storesIn (grant .plan))) × (r .numbers .last ≡ set (numbers .last) (grant .entry) (grant .number)) ⌝ }
+    ensures { λ _. ⌜ now (output .exit) ≡ written (clearData (opening .held) (kindIs (opening .kind)) (now (frame .entry))) (now (output .entry)) ⌝ }
+{
+    release_data(opening, frame, output);
+    carried_out(grant, made, numbers)
+}
+
+// Under the entry that matches: judged, and then carried out.
+pub(crate) fn check_under(
     image: &mut [u8],
     numbers: Numbers,
     kind: Kind,
@@ -40,54 +110,19 @@ fn check_under(
     frame: &[u8],
     output: &mut [u8],
 ) -> Outcome
-    requires { ⌜ (validImage (now image) ≡ true) × (agrees (now image) (numbers .last) ≡ true) × (entry < countOf (now image)) × (obeys (kindIs kind) (now frame) true ≡ true) ⌝ }
-    ensures { λ r. ⌜ ((number : ℕ) → kindOf number ≡ kindIs kind → leaving r (now (image .exit)) (now (output .exit)) ≡ checkedUnder (now (image .entry)) (numbers .last) entry number (now (frame .entry)) (now (output .entry))) ⌝ }
+    requires { ⌜ obeys (kindIs kind) (now frame) true ≡ true ⌝ }
+    ensures { λ r. ⌜ leaving r (now (image .exit)) (now (output .exit)) ≡ left (receivingReply (now (image .entry)) (numbers .last) entry (kindIs kind) (now (frame .entry)) (length (now (output .entry)))) (now (image .entry)) (numbers .last) (now (output .entry)) ⌝ }
 {
-    let under = held_at(image, entry);
+    let held = held_at(image, entry);
+    let opening = opening_of(kind, held, frame);
     let last = numbers.of(entry);
-    if too_short(kind, security_length(under.service), frame) {
-        return refused(Answer::TooShort, numbers);
-    }
-    let size = clear_length(kind, under, frame);
-    if output.len() < size {
-        return refused(Answer::NoRoom, numbers);
-    }
-    if !mac_right(kind, under, frame) {
-        return refused(Answer::WrongMac, numbers);
-    }
-    let sequence = number_of(kind, under, frame);
-    if !accepts(last, under.window, sequence) {
-        return refused(Answer::OutsideWindow, numbers);
-    }
-    let n = sequence.number;
-    let stores = n / 64 - last / 64;
-    raise(image, entry, n, stores);
-    release_data(kind, under, frame, output);
-    Outcome {
-        answer: Answer::Done(size, stores),
-        numbers: numbers.advance(entry, n),
-    }
-}
-
-// Checking a frame of a kind, where the image keeps its rules and the numbers agree with its marks: what is left to test is 3, 4 and the above.
-pub(crate) fn check_kind(
-    image: &mut [u8],
-    numbers: Numbers,
-    number: u8,
-    kind: Kind,
-    frame: &[u8],
-    output: &mut [u8],
-) -> Outcome
-    requires { ⌜ (validImage (now image) ≡ true) × (agrees (now image) (numbers .last) ≡ true) × (kindOf number ≡ kindIs kind) ⌝ }
-    ensures { λ r. ⌜ leaving r (now (image .exit)) (now (output .exit)) ≡ checked (now (image .entry)) (numbers .last) number (now (frame .entry)) (now (output .entry)) ⌝ }
-{
-    if !obeys(number, frame, true) {
-        return refused(Answer::BadFrame, numbers);
-    }
-    let spi = two_at(frame, kind.header_length(frame));
-    let found = find(image, wanted_by(spi, RECEIVING, number, kind, frame));
-    match found {
-        Found::At(entry) => check_under(image, numbers, kind, entry, frame, output),
-        Found::Nothing => refused(Answer::NoEntry, numbers),
+    let verdict = judge_receiving(image, entry, last, opening, frame, output.len());
+    match verdict {
+        Verdict::Refused(answer) => refused(answer, numbers),
+        Verdict::Granted(grant) => {
+            let plan = grant.plan;
+            let made = make_all(image, plan);
+            release(grant, made, numbers, opening, frame, output)
+        }
     }
 }

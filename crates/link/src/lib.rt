@@ -1,28 +1,29 @@
 // Document 01: the link security module. It secures and checks TC and TM transfer frames under the associations of an image. Each call is
 // what its definition of specs/Calls says: the answer, the numbers that come back, and every octet of the image and the output at its return.
 // The caller keeps the image in memory that outlives a failure of power, and hands the numbers of one call to the next.
+mod admission;
 mod answers;
-mod checked;
 mod checking;
-mod cover;
-mod output;
-mod secured;
 mod securing;
-mod sequence;
-mod services;
+mod verdict;
 mod wanted;
+mod window;
 
+use admission::Admission;
+use admission::admit;
 use answers::refused;
 use association::Numbers;
 use association::Standing;
-use association::test_standing;
-use checking::check_kind;
-use frame::Named;
-use frame::kind_of;
-use securing::secure_kind;
+use checking::check_under;
+use checking::spi_on;
+use kinds::kind_of;
+use securing::secure_under;
+use wanted::RECEIVING;
+use wanted::SENDING;
 ghost use mathlib.Core.List.{[]};
 ghost use mathlib.Core.Path.{_≡_};
 ghost use Rattle.link.specs.Calls.{leaving, loaded, secured, checked};
+ghost use Rattle.link.specs.Said.{saying};
 pub use answers::Answer;
 pub use answers::Outcome;
 
@@ -52,17 +53,15 @@ pub fn secure(
     frame: &[u8],
     output: &mut [u8],
 ) -> Outcome
-    ensures { λ r. ⌜ leaving r (now (image .exit)) (now (output .exit)) ≡ secured (now (image .entry)) (numbers .last) kind spi (now (frame .entry)) (now (output .entry)) ⌝ }
+    ensures { λ r. ⌜ leaving r (now (image .exit)) (now (output .exit)) ≡ secured (now (image .entry)) (numbers .last) (saying kind) spi (now (frame .entry)) (now (output .entry)) ⌝ }
 {
-    let standing = test_standing(image, numbers);
-    let named = kind_of(kind);
-    match standing {
-        Standing::BadImage => refused(Answer::BadImage, numbers),
-        Standing::BadMarks => refused(Answer::BadMarks, numbers),
-        Standing::Good => match named {
-            Named::Kind(k) => secure_kind(image, numbers, kind, k, spi, frame, output),
-            Named::Nothing => refused(Answer::BadFrame, numbers),
-        },
+    let asked = kind_of(kind);
+    let admission = admit(image, numbers, kind, asked, spi, SENDING, frame, false);
+    match admission {
+        Admission::Refused(answer) => refused(answer, numbers),
+        Admission::To(kind, entry) => {
+            secure_under(image, numbers, kind, entry, spi, frame, output)
+        }
     }
 }
 
@@ -74,16 +73,13 @@ pub fn check(
     frame: &[u8],
     output: &mut [u8],
 ) -> Outcome
-    ensures { λ r. ⌜ leaving r (now (image .exit)) (now (output .exit)) ≡ checked (now (image .entry)) (numbers .last) kind (now (frame .entry)) (now (output .entry)) ⌝ }
+    ensures { λ r. ⌜ leaving r (now (image .exit)) (now (output .exit)) ≡ checked (now (image .entry)) (numbers .last) (saying kind) (now (frame .entry)) (now (output .entry)) ⌝ }
 {
-    let standing = test_standing(image, numbers);
-    let named = kind_of(kind);
-    match standing {
-        Standing::BadImage => refused(Answer::BadImage, numbers),
-        Standing::BadMarks => refused(Answer::BadMarks, numbers),
-        Standing::Good => match named {
-            Named::Kind(k) => check_kind(image, numbers, kind, k, frame, output),
-            Named::Nothing => refused(Answer::BadFrame, numbers),
-        },
+    let asked = kind_of(kind);
+    let spi = spi_on(asked, frame);
+    let admission = admit(image, numbers, kind, asked, spi, RECEIVING, frame, true);
+    match admission {
+        Admission::Refused(answer) => refused(answer, numbers),
+        Admission::To(kind, entry) => check_under(image, numbers, kind, entry, frame, output),
     }
 }

@@ -1,34 +1,89 @@
-// Document 01, 'What comes back': securing, its tests in the paper's order, 1, 2, 3, 4, 11, 6, 10; then the mark, then the output.
+// Document 01, 'What comes back': a clear frame under the entry that matches, 11, 6 and 10 in the paper's order, and how it goes out.
 use crate::answers::Answer;
 use crate::answers::Outcome;
 use crate::answers::refused;
-use crate::secured::write_secured;
-use crate::sequence::security_length;
-use crate::wanted::SENDING;
-use crate::wanted::wanted_by;
-use association::Found;
+use crate::verdict::Grant;
+use crate::verdict::Verdict;
+use crate::verdict::carried_out;
+use association::Held;
 use association::Numbers;
-use association::find;
 use association::held_at;
-use association::raise;
-use frame::Kind;
+use association::plan_for;
 use frame::exceeds;
-use frame::obeys;
 use frame::secured_length;
+use kinds::Kind;
+use marks::make_all;
+use protection::security_length;
+use protection::write_secured;
 ghost use mathlib.Core.Path.{_≡_};
 ghost use mathlib.Core.Bool.{true, false};
-ghost use Prim.Native.Nat.{ℕ, _<_};
-ghost use Rattle.frame.specs.Kinds.{kindIs, kindOf};
+ghost use lib.ListN.{length, set};
+ghost use Rattle.octets.specs.Output.{written};
+ghost use Rattle.kinds.specs.Kinds.{kindIs};
 ghost use Rattle.frame.specs.Rules.{obeys};
-ghost use Rattle.association.specs.Image.{countOf, validImage};
-ghost use Rattle.association.specs.Numbers.{agrees};
-ghost use Rattle.link.specs.Calls.{leaving, secured};
-ghost use Rattle.link.specs.Steps.{securedUnder};
+ghost use Rattle.marks.specs.Stores.{storesIn};
+ghost use Rattle.protection.specs.Protection.{securedFrame};
+ghost use Rattle.protection.specs.Steps.{Securable};
+ghost use Rattle.link.specs.Answers.{reported, granted};
+ghost use Rattle.link.specs.Calls.{leaving, left};
+ghost use Rattle.link.specs.Steps.{Judged, sendingJudged, sendingReply};
 
 const GREATEST: u32 = 4294967295;
 
-// Securing under the entry that matches: what is left to test is 11, 6 and 10.
-fn secure_under(
+// Whether a frame is secured, under what its association holds and after the last number used. Nothing is changed.
+fn judge_sending(
+    image: &[u8],
+    entry: u8,
+    held: Held,
+    last: u32,
+    kind: Kind,
+    frame: &[u8],
+    room: usize,
+) -> Verdict
+    ensures { λ r. ⌜ Judged r (sendingJudged (now (image .entry)) entry held last (kindIs kind) (now (frame .entry)) room) ⌝ }
+{
+    let security = security_length(held.service);
+    let size = secured_length(security, frame);
+    if exceeds(kind, security, frame) {
+        return Verdict::Refused(Answer::TooLong);
+    }
+    if room < size {
+        return Verdict::Refused(Answer::NoRoom);
+    }
+    if last == GREATEST {
+        return Verdict::Refused(Answer::NumbersSpent);
+    }
+    let number = last + 1;
+    Verdict::Granted(Grant {
+        entry,
+        number,
+        plan: plan_for(image, entry, number),
+        size,
+    })
+}
+
+// The frame goes out behind its stores: `made` is how many of them were made, and has to be all.
+fn hand_out(
+    grant: Grant,
+    made: u32,
+    numbers: Numbers,
+    kind: Kind,
+    held: Held,
+    spi: u16,
+    frame: &[u8],
+    output: &mut [u8],
+) -> Outcome
+    requires { ⌜ made ≡ storesIn (grant .plan) ⌝ }
+    requires { ⌜ Securable held (kindIs kind) (now frame) (length (now output)) ⌝ }
+    ensures { λ r. ⌜ (reported (r .answer) ≡ granted (grant .size) (storesIn (grant .plan))) × (r .numbers .last ≡ set (numbers .last) (grant .entry) (grant .number)) ⌝ }
+    ensures { λ _. ⌜ now (output .exit) ≡ written (securedFrame held (kindIs kind) spi (grant .number) (now (frame .entry))) (now (output .entry)) ⌝ }
+{
+    write_secured(kind, held, spi, grant.number, frame, output);
+    carried_out(grant, made, numbers)
+}
+
+// Under the entry that matches: judged, and then carried out.
+pub(crate) fn secure_under(
     image: &mut [u8],
     numbers: Numbers,
     kind: Kind,
@@ -37,51 +92,18 @@ fn secure_under(
     frame: &[u8],
     output: &mut [u8],
 ) -> Outcome
-    requires { ⌜ (validImage (now image) ≡ true) × (agrees (now image) (numbers .last) ≡ true) × (entry < countOf (now image)) × (obeys (kindIs kind) (now frame) false ≡ true) ⌝ }
-    ensures { λ r. ⌜ ((number : ℕ) → kindOf number ≡ kindIs kind → leaving r (now (image .exit)) (now (output .exit)) ≡ securedUnder (now (image .entry)) (numbers .last) entry number spi (now (frame .entry)) (now (output .entry))) ⌝ }
+    requires { ⌜ obeys (kindIs kind) (now frame) false ≡ true ⌝ }
+    ensures { λ r. ⌜ leaving r (now (image .exit)) (now (output .exit)) ≡ left (sendingReply (now (image .entry)) (numbers .last) entry (kindIs kind) spi (now (frame .entry)) (length (now (output .entry)))) (now (image .entry)) (numbers .last) (now (output .entry)) ⌝ }
 {
-    let under = held_at(image, entry);
+    let held = held_at(image, entry);
     let last = numbers.of(entry);
-    let security = security_length(under.service);
-    let size = secured_length(security, frame);
-    if exceeds(kind, security, frame) {
-        return refused(Answer::TooLong, numbers);
-    }
-    if output.len() < size {
-        return refused(Answer::NoRoom, numbers);
-    }
-    if last == GREATEST {
-        return refused(Answer::NumbersSpent, numbers);
-    }
-    let n = last + 1;
-    let stores = n / 64 - last / 64;
-    raise(image, entry, n, stores);
-    write_secured(kind, under, spi, n, frame, output);
-    Outcome {
-        answer: Answer::Done(size, stores),
-        numbers: numbers.advance(entry, n),
-    }
-}
-
-// Securing a frame of a kind, where the image keeps its rules and the numbers agree with its marks: what is left to test is 3, 4 and the above.
-pub(crate) fn secure_kind(
-    image: &mut [u8],
-    numbers: Numbers,
-    number: u8,
-    kind: Kind,
-    spi: u16,
-    frame: &[u8],
-    output: &mut [u8],
-) -> Outcome
-    requires { ⌜ (validImage (now image) ≡ true) × (agrees (now image) (numbers .last) ≡ true) × (kindOf number ≡ kindIs kind) ⌝ }
-    ensures { λ r. ⌜ leaving r (now (image .exit)) (now (output .exit)) ≡ secured (now (image .entry)) (numbers .last) number spi (now (frame .entry)) (now (output .entry)) ⌝ }
-{
-    if !obeys(number, frame, false) {
-        return refused(Answer::BadFrame, numbers);
-    }
-    let found = find(image, wanted_by(spi, SENDING, number, kind, frame));
-    match found {
-        Found::At(entry) => secure_under(image, numbers, kind, entry, spi, frame, output),
-        Found::Nothing => refused(Answer::NoEntry, numbers),
+    let verdict = judge_sending(image, entry, held, last, kind, frame, output.len());
+    match verdict {
+        Verdict::Refused(answer) => refused(answer, numbers),
+        Verdict::Granted(grant) => {
+            let plan = grant.plan;
+            let made = make_all(image, plan);
+            hand_out(grant, made, numbers, kind, held, spi, frame, output)
+        }
     }
 }

@@ -6,7 +6,7 @@ use mathlib.Core.Bool.{cond}
 use mathlib.Core.List.{List}
 use borrow.Author.Tests.{eq-eqb, ne-eqb}
 use lib.ListN.{length}
-use Rattle.association.specs.Image.{validImage}
+use Rattle.image.specs.Image.{validImage}
 use Rattle.link.specs.Answers.{reported}
 use Rattle.link.specs.Calls.{Left, leaving}
 use Rattle.link.specs.declared.answers.Outcome.{Outcome}

@@ -7,8 +7,9 @@ use mathlib.Core.Bool.{cond}
 use mathlib.Core.List.{List, []}
 use lib.Dec.{eqb}
 use lib.ListN.{length}
-use Rattle.association.specs.Image.{validImage}
+use Rattle.image.specs.Image.{validImage}
 use Rattle.link.specs.Calls.{Left, refused, loaded, secured, checked}
+use Rattle.link.specs.Said.{Said}
 
 -- ---- the returned number: bits 0 to 31 hold the length of the result, 32 to 39 the stores, 40 to 47 the answer's number
 
@@ -34,11 +35,11 @@ counted image numbers output call = cond (eqb (length numbers) 32) call (refused
 unfoldable pub loadCall : List ℕ → List ℕ → Left
 loadCall image numbers = counted image numbers [] (loaded image numbers)
 
-unfoldable pub secureCall : List ℕ → List ℕ → ℕ → ℕ → List ℕ → List ℕ → Left
-secureCall image numbers kind spi frame output = counted image numbers output (secured image numbers kind spi frame output)
+unfoldable pub secureCall : List ℕ → List ℕ → Said → ℕ → List ℕ → List ℕ → Left
+secureCall image numbers said spi frame output = counted image numbers output (secured image numbers said spi frame output)
 
-unfoldable pub checkCall : List ℕ → List ℕ → ℕ → List ℕ → List ℕ → Left
-checkCall image numbers kind frame output = counted image numbers output (checked image numbers kind frame output)
+unfoldable pub checkCall : List ℕ → List ℕ → Said → List ℕ → List ℕ → Left
+checkCall image numbers said frame output = counted image numbers output (checked image numbers said frame output)
 
 -- ---- what the caller sees of a call: the number, and the lent lists as it returns
 

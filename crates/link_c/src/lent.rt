@@ -1,12 +1,12 @@
 // Document 01, 'Managed numbers': the 32 numbers, between the list that the caller lends and the value that the module works on.
 use crate::packing::pack;
 use association::Numbers;
-use association::image_ok;
+use image::image_ok;
 use link::Answer;
 ghost use mathlib.Core.Path.{_≡_};
 ghost use mathlib.Core.Bool.{cond};
 ghost use lib.ListN.{length};
-ghost use Rattle.association.specs.Image.{validImage};
+ghost use Rattle.image.specs.Image.{validImage};
 ghost use Rattle.link_c.specs.Interface.{word};
 
 pub(crate) fn numbers_in(lent: &[u32]) -> Numbers

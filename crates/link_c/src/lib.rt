@@ -10,6 +10,7 @@ use packing::pack;
 ghost use mathlib.Core.List.{[]};
 ghost use mathlib.Core.Path.{_≡_};
 ghost use Rattle.association.specs.Stores.{storesMade, afterStores};
+ghost use Rattle.link.specs.Said.{saying};
 ghost use Rattle.link_c.specs.Interface.{Returned, loadCall, secureCall, checkCall};
 
 // A restart.
@@ -36,7 +37,7 @@ pub extern "C" fn xistalvo_secure(
     frame: &[u8],
     output: &mut [u8],
 ) -> u64
-    ensures { λ r. ⌜ Returned (secureCall (now (image .entry)) (now (numbers .entry)) kind spi (now (frame .entry)) (now (output .entry))) r (now (image .exit)) (now (numbers .exit)) (now (output .exit)) ⌝ }
+    ensures { λ r. ⌜ Returned (secureCall (now (image .entry)) (now (numbers .entry)) (saying kind) spi (now (frame .entry)) (now (output .entry))) r (now (image .exit)) (now (numbers .exit)) (now (output .exit)) ⌝ }
 {
     if numbers.len() != 32 {
         return refuse_count(image);
@@ -56,7 +57,7 @@ pub extern "C" fn xistalvo_check(
     frame: &[u8],
     output: &mut [u8],
 ) -> u64
-    ensures { λ r. ⌜ Returned (checkCall (now (image .entry)) (now (numbers .entry)) kind (now (frame .entry)) (now (output .entry))) r (now (image .exit)) (now (numbers .exit)) (now (output .exit)) ⌝ }
+    ensures { λ r. ⌜ Returned (checkCall (now (image .entry)) (now (numbers .entry)) (saying kind) (now (frame .entry)) (now (output .entry))) r (now (image .exit)) (now (numbers .exit)) (now (output .exit)) ⌝ }
 {
     if numbers.len() != 32 {
         return refuse_count(image);

@@ -1,66 +1,63 @@
-// The calls, on an image and numbers. Each gives the numbers that it hands back. A line that asks for more room than there is, or lacks a
-// field, runs nothing and writes no answer.
+// The calls, on an image and numbers. Each gives the numbers that it hands back.
 use crate::answers::FILL;
-use crate::answers::print;
 use crate::answers::print_answer;
-use crate::lines::decode;
+use crate::fields::four;
+use crate::fields::octet;
+use crate::fields::two;
 use association::Numbers;
 use association::raise;
-use octets::four_at;
-use octets::two_at;
+use lines::field;
+use lines::print_number;
+use lines::read_octets;
+use link::Outcome;
+use octets::octet_at;
+
+fn printed(outcome: Outcome, output: &[u8]) -> Numbers {
+    let answer = outcome.answer;
+    print_answer(answer, output);
+    outcome.numbers
+}
 
 // `load`: a restart from the image as it stands.
 pub(crate) fn run_load(image: &[u8], numbers: Numbers) -> Numbers {
-    let outcome = link::load(image, numbers);
-    let answer = outcome.answer;
-    print_answer(answer, b"");
-    outcome.numbers
+    printed(link::load(image, numbers), b"")
 }
 
 // `raise ENTRY NUMBER J`: the stores of a call that was cut after the first J of them.
 pub(crate) fn run_raise(line: &[u8], image: &mut [u8], numbers: Numbers) -> Numbers {
-    let mut octets = [0u8; 9];
-    decode(line, 6, &mut octets);
-    let made = raise(image, octets[0], four_at(&octets, 1), four_at(&octets, 5));
-    print(b"stores ", made as u64);
+    let made = raise(image, octet(line, 1), four(line, 2), four(line, 3));
+    print_number(b"stores ", made as u64);
     numbers
 }
 
-// `secure KIND SPI ROOM FRAME`, where ROOM is the length of the output.
-pub(crate) fn run_secure(line: &[u8], image: &mut [u8], numbers: Numbers) -> Numbers {
-    let mut octets = [0u8; 4096];
-    let count = decode(line, 7, &mut octets);
-    let spi = two_at(&octets, 1);
-    let room = two_at(&octets, 3) as usize;
-    let mut output = [FILL; 4096];
-    if count < 5 {
-        return numbers;
+// `secure KIND SPI ROOM FRAME`, or `check KIND ROOM FRAME`, where the SPI stands in the frame.
+fn outcome(
+    line: &[u8],
+    image: &mut [u8],
+    numbers: Numbers,
+    frame: &[u8],
+    output: &mut [u8],
+) -> Outcome {
+    let kind = octet(line, 1);
+    if octet_at(line, 0) == b's' {
+        return link::secure(image, numbers, kind, two(line, 2), frame, output);
     }
-    if 4096 < room {
-        return numbers;
-    }
-    let output = &mut output[..room];
-    let outcome = link::secure(image, numbers, octets[0], spi, &octets[5..count], output);
-    let answer = outcome.answer;
-    print_answer(answer, output);
-    outcome.numbers
+    link::check(image, numbers, kind, frame, output)
 }
 
-// `check KIND ROOM FRAME`, likewise; the SPI stands in the frame.
-pub(crate) fn run_check(line: &[u8], image: &mut [u8], numbers: Numbers) -> Numbers {
+// Such a line, by the numbers of its fields ROOM, which is the length of the output, at most 4096, and FRAME.
+pub(crate) fn run_frame(
+    line: &[u8],
+    room: usize,
+    frame: usize,
+    image: &mut [u8],
+    numbers: Numbers,
+) -> Numbers {
     let mut octets = [0u8; 4096];
-    let count = decode(line, 6, &mut octets);
-    let room = two_at(&octets, 1) as usize;
     let mut output = [FILL; 4096];
-    if count < 3 {
-        return numbers;
-    }
-    if 4096 < room {
-        return numbers;
-    }
-    let output = &mut output[..room];
-    let outcome = link::check(image, numbers, octets[0], &octets[3..count], output);
-    let answer = outcome.answer;
-    print_answer(answer, output);
-    outcome.numbers
+    let count = read_octets(field(line, frame), &mut octets);
+    let length = io::count(two(line, room) as isize, &output);
+    let output = &mut output[..length];
+    let outcome = outcome(line, image, numbers, &octets[..count], output);
+    printed(outcome, output)
 }

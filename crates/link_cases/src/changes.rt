@@ -1,10 +1,10 @@
 // What a call changed of the image and of the numbers.
-use crate::answers::print;
-use crate::answers::print_octet;
 use association::Numbers;
+use lines::print_number;
+use lines::print_octet;
 
 fn print_store(at: usize, old: u8, new: u8) {
-    print(b", image ", at as u64);
+    print_number(b", image ", at as u64);
     print_octet(b": ", old);
     print_octet(b" to ", new);
 }
@@ -12,17 +12,19 @@ fn print_store(at: usize, old: u8, new: u8) {
 pub(crate) fn print_stores(before: &[u8; 2048], after: &[u8; 2048]) {
     let mut i: usize = 0;
     while i < 2048 {
-        if before[i] != after[i] {
-            print_store(i, before[i], after[i]);
+        let old = before[i];
+        let new = after[i];
+        if old != new {
+            print_store(i, old, new);
         }
         i += 1;
     }
 }
 
 fn print_advance(entry: u8, old: u32, new: u32) {
-    print(b", number ", entry as u64);
-    print(b": ", old as u64);
-    print(b" to ", new as u64);
+    print_number(b", number ", entry as u64);
+    print_number(b": ", old as u64);
+    print_number(b" to ", new as u64);
 }
 
 pub(crate) fn print_advances(before: Numbers, after: Numbers) {

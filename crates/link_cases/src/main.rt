@@ -3,10 +3,11 @@
 mod answers;
 mod calls;
 mod changes;
-mod lines;
+mod fields;
 mod state;
 
 use association::Numbers;
+use libc::STDIN_FILENO;
 use lines::read_line;
 use state::State;
 use state::step;
@@ -21,7 +22,7 @@ fn main() {
     let mut n: usize = 0;
     while n < 65536 {
         let mut line = [0u8; 8192];
-        let count = read_line(&mut line);
+        let count = read_line(STDIN_FILENO, &mut line);
         if count == 0 {
             return;
         }

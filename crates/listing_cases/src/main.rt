@@ -1,35 +1,26 @@
 // Writes the listings of many images, by the function that the listing program calls. The input has for each image a line that begins
-// with `#` and names the case, which is written as it is, and a line of its octets in hex. tools/listing_cases.py makes the images and
-// the expected listings from the paper alone.
-mod hex;
-mod lines;
-
-use hex::decode;
+// with `#` and names the case, which is written as it is, and a line of its octets in hexadecimal. tools/listing_cases.py makes the images
+// and the expected listings from the paper alone.
 use libc::STDIN_FILENO;
-use libc::STDOUT_FILENO;
+use lines::print;
 use lines::read_line;
+use lines::read_octets;
 use listing_text::LONGEST;
 use listing_text::listing_in;
 use listing_text::write_listing;
+use octets::octet_at;
 
 fn print_listing(image: &[u8]) {
     let mut text = [0u8; LONGEST];
     let listed = write_listing(image, &mut text);
-    io::write_all(STDOUT_FILENO, listing_in(listed, &text));
+    print(listing_in(listed, &text));
 }
 
 // Room for the octets that 33 entries would have, one entry more than an image may have.
 fn list(line: &[u8]) {
     let mut image = [0u8; 1850];
-    let count = decode(line, &mut image);
+    let count = read_octets(line, &mut image);
     print_listing(&image[..count]);
-}
-
-fn is_name(line: &[u8]) -> bool {
-    if line.len() == 0 {
-        return false;
-    }
-    line[0] == b'#'
 }
 
 // Whether there was a line.
@@ -39,8 +30,8 @@ fn run_line() -> bool {
     if count == 0 {
         return false;
     }
-    if is_name(&line[..count]) {
-        io::write_all(STDOUT_FILENO, &line[..count]);
+    if octet_at(&line[..count], 0) == b'#' {
+        print(&line[..count]);
     } else {
         list(&line[..count]);
     }

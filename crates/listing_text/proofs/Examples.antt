@@ -6,12 +6,12 @@ use Prim.Native.Nat.{ℕ}
 use lib.ListN.{replicate}
 use Rattle.octets.specs.Lists.{tab, part, all}
 use Rattle.octets.specs.Numbers.{number}
-use Rattle.frame.specs.Kinds.{named}
+use Rattle.kinds.specs.Kinds.{named}
 use Rattle.association.specs.Association.{entryOf}
-use Rattle.association.specs.Body.{bodyOk}
-use Rattle.association.specs.Gray.{decoded}
-use Rattle.association.specs.Image.{bodyAt, bodyOf, laidOut, entryOk, validImage}
-use Rattle.association.specs.Numbers.{markIn}
+use Rattle.bodies.specs.Body.{bodyIn, bodyOk}
+use Rattle.bodies.specs.Layout.{layoutOf}
+use Rattle.marks.specs.Gray.{decoded}
+use Rattle.image.specs.Image.{bodyAt, bodyOf, imageSize, laidOut, entryOk, validImage, markIn}
 use Rattle.listing_text.specs.Text.{ascii, digits, decimal}
 use Rattle.listing_text.specs.Listing.{field, fields, next, line, lines, listing}
 
@@ -24,17 +24,17 @@ caseB =
     ++ replicate 42 0
 
 case-b : listing caseB ≡ ascii "spi service kind direction state window next\n9 1 1 1 2 100 64\n"
-unfolding caseB listing lines line next fields field digits entryOf validImage laidOut entryOk bodyOk bodyOf bodyAt markIn named decoded
+unfolding caseB listing lines line next fields field digits entryOf validImage laidOut imageSize entryOk bodyOk bodyOf bodyIn bodyAt layoutOf markIn named decoded
     number part tab all
 case-b = refl
 
 -- case A: no entry, and so no line but the title
 case-a : listing (1 ∷ 0 ∷ []) ≡ ascii "spi service kind direction state window next\n"
-unfolding listing lines validImage laidOut all
+unfolding listing lines validImage laidOut imageSize layoutOf all
 case-a = refl
 
 no-octets : listing [] ≡ ascii "refused 1\n"
-unfolding listing validImage laidOut
+unfolding listing validImage laidOut imageSize layoutOf
 no-octets = refl
 
 -- the greatest mark that leaves a number, and the one that leaves none (case K)

@@ -8,11 +8,11 @@ use native.Mathlib.Decide.{decLt}
 use native.Mathlib.Omega.{arith}
 use lib.ListN.{length, take, drop, length-append}
 use lib.Seq.{take-append-seam}
-use Rattle.frame.specs.Masked.{fronted}
+use Rattle.octets.specs.Output.{fronted}
 use Rattle.association.specs.Association.{entryOf}
-use Rattle.association.specs.Image.{countOf, validImage}
+use Rattle.image.specs.Image.{countOf, validImage}
 use Rattle.association.specs.Numbers.{greatest}
-use Rattle.association.proofs.ValidImages.{Valid, valid}
+use Rattle.image.proofs.ValidImages.{Valid, valid}
 use Rattle.listing_text.specs.Listing.{title, field, fields, next, line, lines, listing}
 use Rattle.listing_text.specs.Output.{listed, lengthOf}
 use Rattle.listing_text.proofs.Decimals.{digits-short}

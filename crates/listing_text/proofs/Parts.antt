@@ -11,7 +11,7 @@ use lib.ListN.{length, take, drop, length-append, take-append-drop}
 use lib.Seq.{take-suc}
 use Rattle.octets.specs.Lists.{octet}
 use Rattle.association.specs.Association.{entryOf}
-use Rattle.association.specs.Image.{countOf, validImage}
+use Rattle.image.specs.Image.{countOf, validImage}
 use Rattle.association.specs.Numbers.{greatest}
 use Rattle.association.specs.declared.entry.Entry.{Entry}
 use Rattle.listing_text.specs.Text.{ascii, decimal}

@@ -7,18 +7,23 @@ use native.Mathlib.Numerals.{add-one}
 use native.Mathlib.Omega.{arith}
 use borrow.Author.Tests.{le-leb, lt-leb}
 use lib.ListN.{length, set, take, drop, length-append, length-set}
-use lib.Seq.{take-suc, take-suc-set}
+use lib.Seq.{take-suc, take-suc-set, drop-set-lt, drop-drop}
 use Rattle.octets.specs.Lists.{octet}
-use Rattle.frame.specs.Masked.{fronted}
+use Rattle.octets.specs.Output.{fronted}
 use Rattle.listing_text.specs.Output.{Put, listed}
 use Rattle.listing_text.specs.declared.output.Listed.the-variants as answer
 
 pub put-none : (out : List ℕ) (at : ℕ) → Put out at [] out at
-put-none out at = record { size = refl; place = omega arith; front = sym (append-nil (take at out)) }
+put-none out at = record { size = refl; place = omega arith; front = sym (append-nil (take at out)); rest = refl }
 
 pub put-octet : (out : List ℕ) (at x : ℕ) → at < length out → Put out at (x ∷ []) (set out at x) (at + 1)
 put-octet out at x room =
-    record { size = length-set out at x; place = refl; front = rw add-one (take-suc-set out at x room) }
+    record {
+      size = length-set out at x;
+      place = refl;
+      front = rw add-one (take-suc-set out at x room);
+      rest = drop-set-lt (at + 1) out at x (omega arith);
+    }
 
 pub put-then : {a s b t c : List ℕ} {at m n : ℕ} → Put a at s b m → Put b m t c n → Put a at (s ++ t) c n
 put-then {a} {s} {b} {t} {c} {at} {m} {n} p q =
@@ -26,6 +31,7 @@ put-then {a} {s} {b} {t} {c} {at} {m} {n} p q =
       size = q .size ∙ p .size;
       place = simp length-append (omega arith);
       front = q .front ∙ ap (λ (l : List ℕ). l ++ t) (p .front) ∙ append-assoc (take at a) s t;
+      rest = q .rest ∙ rw (q .place, ← drop-drop (length t) m b, ← drop-drop (length t) m a, p .rest);
     }
 
 -- the next octet of a text

@@ -5,7 +5,7 @@ use mathlib.Core.Bool.{cond}
 use mathlib.Core.List.{List, [], _∷_, _++_}
 use lib.Dec.{leb}
 use Rattle.association.specs.Association.{entryOf}
-use Rattle.association.specs.Image.{countOf, validImage}
+use Rattle.image.specs.Image.{countOf, validImage}
 use Rattle.association.specs.Numbers.{greatest}
 use Rattle.association.specs.declared.entry.Entry.{Entry}
 use Rattle.listing_text.specs.Text.{ascii, decimal}

@@ -5,15 +5,16 @@ use Prim.Native.Nat.{ℕ, _+_}
 use mathlib.Core.Bool.{cond}
 use mathlib.Core.List.{List, _++_}
 use lib.Dec.{leb}
-use lib.ListN.{length, take}
+use lib.ListN.{length, take, drop}
 use Rattle.listing_text.specs.declared.output.Listed.{Listed}
 use Rattle.listing_text.specs.declared.output.Listed.the-variants as answer
 
--- a text put at a place of an output: it stands there, what is before it stays, and the place behind it is the next
+-- a text put at a place of an output: it stands there, what is before it and what is behind it stays, and the place behind it is the next
 pub record Put (before : List ℕ) (at : ℕ) (text after : List ℕ) (behind : ℕ) : Type 0 where
   pub size : length after ≡ length before
   pub place : behind ≡ at + length text
   pub front : take behind after ≡ take at before ++ text
+  pub rest : drop behind after ≡ drop behind before
 
 -- so many octets of text, or no room for them
 unfoldable pub listed : List ℕ → List ℕ → Listed

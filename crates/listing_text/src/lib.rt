@@ -8,7 +8,7 @@ pub use output::Listed;
 use output::copy_front;
 pub use output::listing_in;
 ghost use mathlib.Core.Path.{_≡_};
-ghost use Rattle.frame.specs.Masked.{fronted};
+ghost use Rattle.octets.specs.Output.{fronted};
 ghost use Rattle.listing_text.specs.Listing.{listing};
 ghost use Rattle.listing_text.specs.Output.{listed};
 

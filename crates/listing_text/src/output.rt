@@ -3,7 +3,7 @@ ghost use mathlib.Core.Path.{_≡_};
 ghost use mathlib.Core.List.{[], _∷_};
 ghost use Prim.Native.Nat.{_+_, _<_, _≤_};
 ghost use lib.ListN.{length, take};
-ghost use Rattle.frame.specs.Masked.{fronted};
+ghost use Rattle.octets.specs.Output.{fronted};
 ghost use Rattle.listing_text.specs.Output.{Put, listed, lengthOf};
 
 // What came of writing a listing: so many octets of text stand at the front of the output, or it has no room for them and is as it was.

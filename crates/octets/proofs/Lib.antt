@@ -1,6 +1,8 @@
 pub mod Alls
 pub mod Bounds
+pub mod Filling
 pub mod Numbers
+pub mod Outside
 pub mod Parts
 pub mod Reading
 pub mod Rules

@@ -1,4 +1,5 @@
 pub mod Lists
 pub mod Numbers
+pub mod Output
 pub mod Same
 pub mod Xor

@@ -1,4 +1,11 @@
 // Octets: what every layer cites of lists of octets. specs/ has the definitions and proofs/ the laws; the code is what several layers call.
+mod copying;
+
+pub use copying::block_at;
+pub use copying::copy_at;
+pub use copying::octet_behind;
+pub use copying::put;
+pub use copying::put_behind;
 ghost use mathlib.Core.Path.{_≡_};
 ghost use Prim.Native.Nat.{_+_, _*_};
 ghost use Rattle.octets.specs.Lists.{octet};

@@ -3,68 +3,111 @@
 -- Assumes nothing.
 use Prim.Native.Nat.{ℕ, _+_, _≤_, _<_}
 use mathlib.Core.Path.{_≡_, refl, sym, ap, ap₂, _∙_, subst}
-use mathlib.Core.Logic.{inl, inr}
+use mathlib.Core.Logic.{_⊎_, inl, inr}
 use mathlib.Core.Bool.{Bool, true, false, not, cond, _&&_}
 use mathlib.Core.List.{List, [], _∷_}
 use native.Mathlib.Omega.{arith}
-use borrow.Author.Tests.{ltb-true, ltb-false, leb-true, leb-false, not-true, not-false, lt-ltb, le-leb}
-use lib.Dec.{ltb}
+use borrow.Author.Tests.{eqb-true, ltb-true, ltb-false, leb-true, leb-false, not-true, not-false, lt-ltb, le-leb}
+use lib.Dec.{eqb, ltb}
 use lib.ListN.{length}
 use Rattle.octets.specs.Lists.{Octets}
 use Rattle.octets.specs.Same.{same}
+use Rattle.octets.proofs.Alls.{and-left, and-right}
+use Rattle.octets.proofs.Parts.{length-part}
 use Rattle.octets.proofs.Sameness.{same-refl, same-eq}
-use Rattle.frame.specs.Kinds.{kindOf}
 use Rattle.frame.specs.Parts.{exceeds, tooShort}
 use Rattle.frame.specs.Rules.{least, obeys}
 use Rattle.association.specs.Association.{Association, associationOf, held, heldIn, isNone, theOne, matching, indexOf}
-use Rattle.association.specs.Image.{validImage}
+use Rattle.image.specs.Image.{validImage}
 use Rattle.association.specs.Numbers.{greatest, loadedNumbers, agrees, accepts, spent}
 use Rattle.association.specs.Search.{entryFor}
 use Rattle.association.specs.declared.held.Held.{Held}
 use Rattle.association.specs.declared.search.Wanted.{Wanted}
 use Rattle.association.proofs.Agreement.{accepted}
-use Rattle.association.proofs.ValidImages.{valid, spi-once}
-use Rattle.link.specs.Answers.{Test, first}
-use Rattle.link.specs.Calls.{refused, wanted, loaded, securingReply, securingEntry, secured}
-use Rattle.link.specs.Calls.{comparison, checkingReply, checkingEntry, checkedAs, checked}
-use Rattle.link.specs.Protection.{securityLength, securedLength, numberIn, textIn, macRight, clearLength}
+use Rattle.image.proofs.ValidImages.{valid, spi-once}
+use Rattle.link.specs.Answers.{Reported, reported, Test, first}
+use Rattle.link.specs.Calls.{Left, refused, wanted, loaded, securingReply, secured}
+use Rattle.link.specs.Calls.{checkingWants, comparison, checkingReply, checkedAs, checked}
+use Rattle.protection.specs.Protection.{securityLength, securedLength, numberIn, textIn, macRight, clearLength}
 use Rattle.link.specs.Replies.{seen, securingTests, securing, checkingTests, checking}
+use Rattle.link.specs.Said.{Said, kindSaid}
+use Rattle.link.specs.declared.answers.Answer.{Answer}
+use Rattle.link.specs.declared.answers.Answer.the-variants as answer
 use Rattle.link.proofs.Answered.{left-answer}
 use Rattle.link.proofs.Searches.{Finds, finds, finds-none}
-use Rattle.promises.specs.Answers.{Rules, rule, done, Gives, Exactly, loadRules, securingRules, checkingRules, Answering}
+use Rattle.promises.specs.Answers.{reporting, Rules, rule, noMore, reportOf, Gives, Exactly}
+use Rattle.promises.specs.Answers.{loadRules, securingRules, checkingRules, Answering}
 use Rattle.promises.specs.Frames.{FrameRules, securitySize, spiOn, numberOn, textOn, macOn, rightMac}
 use Rattle.promises.specs.Images.{serviceAt, windowAt, maskAt, keyAt, lastAt, ImageRules, Agreeing, Serves}
 use Rattle.promises.proofs.Fields.{service-at, window-at, mask-at, key-at}
-use Rattle.promises.proofs.Readings.{frame-kept, frame-tested, security-size, number-on, text-on, mac-right}
+use Rattle.promises.proofs.Readings.{form, header-size, trailer-size, frame-kept, frame-tested}
+use Rattle.promises.proofs.Readings.{spi-on, security-size, number-on, text-on, mac-right}
+use Rattle.promises.proofs.Refusals.{refusals}
 use Rattle.promises.proofs.Valids.{rules-kept, rules-valid, agreement, agreement-tested, serving, served}
 
 -- ---- rules give one answer
 
-alone : (rules : Rules) (x y : ℕ) → Gives rules x → Gives rules y → x ≡ y
+alone : (rules : Rules) (x y : Reported) → Gives rules x → Gives rules y → x .number ≡ y .number
 unfolding Gives
-alone done x y a b = a ∙ sym b
-alone (rule number kept behind) x y (inl a) (inl b) = a .1 ∙ sym (b .1)
-alone (rule number kept behind) x y (inl a) (inr b) = absurd (a .0 (b .0))
-alone (rule number kept behind) x y (inr a) (inl b) = absurd (b .0 (a .0))
-alone (rule number kept behind) x y (inr a) (inr b) = alone behind x y (a .1) (b .1)
+alone noMore x y a b = cc
+alone (rule refusal kept behind) x y (inl a) (inl b) = ap (λ (r : Reported). r .number) (a .1 ∙ sym (b .1))
+alone (rule refusal kept behind) x y (inl a) (inr b) = absurd (a .0 (b .0))
+alone (rule refusal kept behind) x y (inr a) (inl b) = absurd (b .0 (a .0))
+alone (rule refusal kept behind) x y (inr a) (inr b) = alone behind x y (a .1) (b .1)
 
-exactly : (rules : Rules) (x : ℕ) → Gives rules x → Exactly rules x
-exactly rules x given = record { given = given; alone = λ y other. alone rules y x other given }
+-- ---- by number alone
+
+unfoldable Numbered : Rules → ℕ → Type 0
+Numbered (rule refusal kept behind) n = ((kept → ⊥) × (n ≡ reported refusal .number)) ⊎ (kept × Numbered behind n)
+Numbered noMore n = n ≡ 0
+
+-- whether every rule refuses: with a number above 0, length 0 and 0 stores
+abbrev refusing : Rules → Bool
+refusing (rule refusal kept behind) =
+    ltb 0 (reported refusal .number)
+    && eqb (reported refusal .length) 0
+    && eqb (reported refusal .stores) 0
+    && refusing behind
+refusing noMore = true
+
+-- a call that is not done reports nothing but its number, so the number decides what it reports
+abbrev Silent : Left → Type 0
+Silent x = (x .answer ≡ 0 → ⊥) → (x .length ≡ 0) × (x .stores ≡ 0)
+
+reports : (rules : Rules) (x : Left) → Silent x → refusing rules ≡ true → Numbered rules (x .answer) → Gives rules (reportOf x)
+unfolding Gives Numbered
+reports noMore x silent r z = ap (λ (n : ℕ). reporting n (x .length) (x .stores)) z
+reports (rule refusal kept behind) x silent r (inl b) =
+    let above : 0 < reported refusal .number = ltb-true 0 (reported refusal .number) (search (and-left, and-right)) in
+    let zeros = silent (λ z. omega (arith, b .1)) in
+    let v = reported refusal in
+    let long = eqb-true (v .length) 0 (search (and-left, and-right)) in
+    let stores = eqb-true (v .stores) 0 (search (and-left, and-right)) in
+    let whole : reportOf x ≡ reporting (v .number) (v .length) (v .stores) = cc (b .1, zeros .0, zeros .1) in
+    inl (b .0, whole)
+reports (rule refusal kept behind) x silent r (inr b) = inr (b .0, reports behind x silent (search and-right) (b .1))
+
+exactly : (rules : Rules) (x : Left) → Silent x → refusing rules ≡ true → Numbered rules (x .answer) → Exactly rules (reportOf x)
+exactly rules x silent r numbered =
+    let gives = reports rules x silent r numbered in
+    record { given = gives; alone = λ y other. alone rules y (reportOf x) other gives }
 
 -- ---- a test and its rule
 
-step : (number : ℕ) (broken : Bool) (tests : List Test) (kept : Type 0) (behind : Rules) → (broken ≡ true → kept → ⊥)
-    → (broken ≡ false → kept × Gives behind (first tests)) → Gives (rule number kept behind) (first ((number, broken) ∷ tests))
-unfolding first Gives
-step number true tests kept behind breaks keeps = inl (breaks refl, refl)
-step number false tests kept behind breaks keeps = inr (keeps refl)
+step : (refusal : Answer) (broken : Bool) (tests : List Test) (kept : Type 0) (behind : Rules) → (broken ≡ true → kept → ⊥)
+    → (broken ≡ false → kept × Numbered behind (first tests))
+    → Numbered (rule refusal kept behind) (first ((reported refusal .number, broken) ∷ tests))
+unfolding first Numbered
+step refusal true tests kept behind breaks keeps = inl (breaks refl, refl)
+step refusal false tests kept behind breaks keeps = inr (keeps refl)
 
-next : (number : ℕ) (broken : Bool) (tests : List Test) (kept : Type 0) (behind : Rules) → (broken ≡ true → kept → ⊥)
-    → (broken ≡ false → kept) → Gives behind (first tests) → Gives (rule number kept behind) (first ((number, broken) ∷ tests))
-next number broken tests kept behind breaks keeps then = step number broken tests kept behind breaks (λ t. (keeps t, then))
+next : (refusal : Answer) (broken : Bool) (tests : List Test) (kept : Type 0) (behind : Rules) → (broken ≡ true → kept → ⊥)
+    → (broken ≡ false → kept) → Numbered behind (first tests)
+    → Numbered (rule refusal kept behind) (first ((reported refusal .number, broken) ∷ tests))
+next refusal broken tests kept behind breaks keeps then = step refusal broken tests kept behind breaks (λ t. (keeps t, then))
 
-last-done : Gives done (first [])
-unfolding first Gives
+last-done : Numbered noMore (first [])
+unfolding first Numbered
 last-done = refl
 
 differ : (b : Bool) → b ≡ true → b ≡ false → ⊥
@@ -76,12 +119,12 @@ accepting last window n above near most =
 
 -- ---- load
 
-load-rules : (image numbers : List ℕ) → Octets image → Gives (loadRules image) (loaded image numbers .answer)
-unfolding loaded Gives
+load-rules : (image numbers : List ℕ) → Octets image → Numbered (loadRules image) (loaded image numbers .answer)
+unfolding loaded Numbered
 load-rules image numbers octets = by-test (validImage image) refl
   where
     by-test : (t : Bool) → validImage image ≡ t
-        → Gives (loadRules image)
+        → Numbered (loadRules image)
         (cond t (record { answer = 0; length = 0; stores = 0; image = image; numbers = loadedNumbers image; output = [] })
         (refused 1 image numbers []) .answer)
     by-test true e = inr (rules-kept image octets e, refl)
@@ -89,9 +132,9 @@ load-rules image numbers octets = by-test (validImage image) refl
 
 -- ---- the entry that serves
 
-module _ (image numbers : List ℕ) (octets : Octets image) (direction kind spi : ℕ) (frame : List ℕ) where
+module _ (image numbers : List ℕ) (octets : Octets image) (direction : ℕ) (said : Said) (spi : ℕ) (frame : List ℕ) where
   abbrev w : Wanted
-  w = wanted spi direction kind frame
+  w = wanted spi direction said frame
 
   abbrev e : ℕ
   e = indexOf (entryFor image w)
@@ -99,19 +142,19 @@ module _ (image numbers : List ℕ) (octets : Octets image) (direction kind spi 
   abbrev h : Held
   h = heldIn (theOne (matching image numbers w))
 
-  nobody : isNone (matching image numbers w) ≡ true → (d : ℕ) × Serves image direction kind spi frame d → ⊥
+  pub nobody : isNone (matching image numbers w) ≡ true → (d : ℕ) × Serves image direction said spi frame d → ⊥
   nobody none s =
-      differ _ (served image direction kind spi frame (s .0) (s .1)) (finds-none image numbers w none (s .0) (s .1 .entry))
+      differ _ (served image direction said spi frame (s .0) (s .1)) (finds-none image numbers w none (s .0) (s .1 .entry))
 
   module _ (rules : ImageRules image) (some : isNone (matching image numbers w) ≡ false) where
     f : Finds image numbers w e
     f = finds image numbers w some
 
-    serves : Serves image direction kind spi frame e
-    serves = serving image direction kind spi frame e (f .below) (f .passes)
+    serves : Serves image direction said spi frame e
+    serves = serving image direction said spi frame e (f .below) (f .passes)
 
     -- it is the only one
-    under : (P : ℕ → Type 0) → P e → (d : ℕ) → Serves image direction kind spi frame d → P d
+    under : (P : ℕ → Type 0) → P e → (d : ℕ) → Serves image direction said spi frame d → P d
     under P p d s =
         subst P
         (spi-once image (valid image (rules-valid image octets rules)) e d (serves .entry) (s .entry) (serves .spis ∙ sym (s .spis))) p
@@ -137,118 +180,122 @@ module _ (image numbers : List ℕ) (octets : Octets image) (direction kind spi 
     last = ap (λ (x : Association). x .number) (f .association)
 
     security : securityLength h ≡ securitySize (serviceAt image e)
-    security = security-size h kind frame ∙ ap securitySize held-service
+    security = security-size h said frame ∙ ap securitySize held-service
 
-    text : textIn h (kindOf kind) frame ≡ textOn (serviceAt image e) kind frame
-    text = text-on h kind frame ∙ ap (λ (s : ℕ). textOn s kind frame) held-service
+    text : textIn h (kindSaid said) frame ≡ textOn (serviceAt image e) said frame
+    text = text-on h said frame ∙ ap (λ (s : ℕ). textOn s said frame) held-service
 
-    number : numberIn h (kindOf kind) frame ≡ numberOn (serviceAt image e) kind frame
-    number = number-on h kind frame ∙ ap (λ (s : ℕ). numberOn s kind frame) held-service
+    number : numberIn h (kindSaid said) frame ≡ numberOn (serviceAt image e) said frame
+    number = number-on h said frame ∙ ap (λ (s : ℕ). numberOn s said frame) held-service
 
-    mac : macRight h (kindOf kind) frame
-        ≡ same (rightMac (serviceAt image e) kind (maskAt image e) (keyAt image e) frame) (macOn kind frame)
-    mac = mac-right h kind frame ∙ rw (held-service, held-mask, held-key)
+    mac : macRight h (kindSaid said) frame
+        ≡ same (rightMac (serviceAt image e) said (maskAt image e) (keyAt image e) frame) (macOn said frame)
+    mac = mac-right h said frame (ap length held-mask ∙ length-part _ 6 image) ∙ rw (held-service, held-mask, held-key)
 
   -- the first four rules, which sending and checking share
   front : (secured : Bool) (behind : Rules) (tests : List Test)
-      → (ImageRules image → isNone (matching image numbers w) ≡ false → Gives behind (first tests))
-      → Gives
-      (rule 1 (ImageRules image)
-      (rule 2 (Agreeing image numbers)
-      (rule 3 (FrameRules kind frame (least secured)) (rule 4 ((d : ℕ) × Serves image direction kind spi frame d) behind))))
+      → (ImageRules image → isNone (matching image numbers w) ≡ false → Numbered behind (first tests))
+      → Numbered
+      (rule answer.BadImage (ImageRules image)
+      (rule answer.BadMarks (Agreeing image numbers)
+      (rule answer.BadFrame (FrameRules said frame (least secured))
+      (rule answer.NoEntry ((d : ℕ) × Serves image direction said spi frame d) behind))))
       (first
       ((1, not (validImage image))
       ∷ (2, not (agrees image numbers))
-      ∷ (3, not (obeys (kindOf kind) frame secured))
+      ∷ (3, not (obeys (kindSaid said) frame secured))
       ∷ (4, isNone (matching image numbers w))
       ∷ tests))
   front secured behind tests then =
-      step 1 (not (validImage image)) _ _ _
+      step answer.BadImage (not (validImage image)) _ _ _
       (λ t r. differ (validImage image) (rules-valid image octets r) (not-true (validImage image) t))
       (λ t1.
       let rules = rules-kept image octets (not-false (validImage image) t1) in
       let rest =
-      next 2 (not (agrees image numbers)) _ _ _
+      next answer.BadMarks (not (agrees image numbers)) _ _ _
       (λ t a. differ (agrees image numbers) (agreement-tested image numbers octets a) (not-true (agrees image numbers) t))
       (λ t. agreement image numbers octets (not-false (agrees image numbers) t))
-      (next 3 (not (obeys (kindOf kind) frame secured)) _ _ _
-      (λ t k. differ _ (frame-tested kind frame secured k) (not-true (obeys (kindOf kind) frame secured) t))
-      (λ t. frame-kept kind frame secured (not-false (obeys (kindOf kind) frame secured) t))
-      (step 4 (isNone (matching image numbers w)) tests ((d : ℕ) × Serves image direction kind spi frame d) behind nobody
+      (next answer.BadFrame (not (obeys (kindSaid said) frame secured)) _ _ _
+      (λ t k. differ _ (frame-tested said frame secured k) (not-true (obeys (kindSaid said) frame secured) t))
+      (λ t. frame-kept said frame secured (not-false (obeys (kindSaid said) frame secured) t))
+      (step answer.NoEntry (isNone (matching image numbers w)) tests ((d : ℕ) × Serves image direction said spi frame d) behind nobody
       (λ t4. ((e, serves rules t4), then rules t4))))
       in
       (rules, rest))
 
 -- ---- securing
 
-module _ (image numbers : List ℕ) (octets : Octets image) (kind spi : ℕ) (frame output : List ℕ) where
-  sending-rules : Gives (securingRules image numbers kind spi frame output)
-      (first (securingTests (seen image numbers (wanted spi 1 kind frame)) kind frame (length output)))
+module _ (image numbers : List ℕ) (octets : Octets image) (said : Said) (spi : ℕ) (frame output : List ℕ) where
+  sending-rules : Numbered (securingRules image numbers said spi frame output)
+      (first (securingTests (seen image numbers (wanted spi 1 said frame)) said frame (length output)))
   unfolding securingTests seen
   sending-rules =
-      front image numbers octets 1 kind spi frame false _ _
+      front image numbers octets 1 said spi frame false _ _
       (λ rules some.
-      let w : Wanted = wanted spi 1 kind frame in
+      let w : Wanted = wanted spi 1 said frame in
       let d : ℕ = indexOf (entryFor image w) in
       let a : Association = theOne (matching image numbers w) in
       let size : ℕ = securedLength (heldIn a) frame in
-      let s = serves image numbers octets 1 kind spi frame rules some in
-      let c = security image numbers octets 1 kind spi frame rules some in
-      let l = last image numbers octets 1 kind spi frame rules some in
-      let all = under image numbers octets 1 kind spi frame rules some in
-      next 11 (exceeds (kindOf kind) (securityLength (heldIn a)) frame) _ _ _
-      (λ t r. omega (arith, r d s, ltb-true (kindOf kind .largest) size t))
-      (λ t. all _ (omega (arith, ltb-false (kindOf kind .largest) size t)))
-      (next 6 (ltb (length output) size) _ _ _
+      let s = serves image numbers octets 1 said spi frame rules some in
+      let c = security image numbers octets 1 said spi frame rules some in
+      let l = last image numbers octets 1 said spi frame rules some in
+      let all = under image numbers octets 1 said spi frame rules some in
+      let most = form said .largest in
+      next answer.TooLong (exceeds (kindSaid said) (securityLength (heldIn a)) frame) _ _ _
+      (λ t r. omega (arith, r d s, ltb-true (kindSaid said .largest) size t))
+      (λ t. all _ (omega (arith, ltb-false (kindSaid said .largest) size t)))
+      (next answer.NoRoom (ltb (length output) size) _ _ _
       (λ t r. omega (arith, r d s, ltb-true (length output) size t))
       (λ t. all _ (omega (arith, ltb-false (length output) size t)))
-      (next 10 (spent (a .number)) _ _ _
+      (next answer.NumbersSpent (spent (a .number)) _ _ _
       (λ t r. omega (arith, r d s, leb-true greatest (a .number) t))
       (λ t. all _ (omega (arith, leb-false greatest (a .number) t)))
       last-done)))
 
 -- ---- checking
 
-module _ (image numbers : List ℕ) (octets : Octets image) (kind : ℕ) (frame output : List ℕ) where
-  checking-rules : Gives (checkingRules image numbers kind frame output)
+module _ (image numbers : List ℕ) (octets : Octets image) (said : Said) (frame output : List ℕ) where
+  checking-rules : Numbered (checkingRules image numbers said frame output)
       (first
-      (checkingTests (seen image numbers (wanted (spiOn kind frame) 2 kind frame)) (comparison image numbers kind frame) kind frame
-      (length output)))
+      (checkingTests (seen image numbers (checkingWants said frame)) (comparison image numbers said frame) said frame (length output)))
   unfolding checkingTests seen comparison clearLength
   checking-rules =
-      let spi : ℕ = spiOn kind frame in
-      front image numbers octets 2 kind spi frame true _ _
+      rw (← spi-on said frame)
+      (let spi : ℕ = spiOn said frame in
+      front image numbers octets 2 said spi frame true _ _
       (λ rules some.
-      let w : Wanted = wanted spi 2 kind frame in
+      let w : Wanted = wanted spi 2 said frame in
       let d : ℕ = indexOf (entryFor image w) in
       let a : Association = theOne (matching image numbers w) in
       let h : Held = heldIn a in
-      let least : ℕ = kindOf kind .header frame + securityLength h + 1 + 16 + kindOf kind .trailer frame in
-      let size : ℕ = length (textIn h (kindOf kind) frame) in
-      let right : Bool = macRight h (kindOf kind) frame in
-      let n : ℕ = numberIn h (kindOf kind) frame in
+      let least : ℕ = kindSaid said .header frame + securityLength h + 1 + 16 + kindSaid said .trailer frame in
+      let hs = header-size said frame in
+      let fs = trailer-size said frame in
+      let size : ℕ = length (textIn h (kindSaid said) frame) in
+      let right : Bool = macRight h (kindSaid said) frame in
+      let n : ℕ = numberIn h (kindSaid said) frame in
       let inside : Bool = accepts (a .number) (h .window) n in
-      let s = serves image numbers octets 2 kind spi frame rules some in
-      let c = security image numbers octets 2 kind spi frame rules some in
-      let z = ap length (text image numbers octets 2 kind spi frame rules some) in
-      let m = mac image numbers octets 2 kind spi frame rules some in
-      let l = last image numbers octets 2 kind spi frame rules some in
-      let o = held-window image numbers octets 2 kind spi frame rules some in
-      let v = number image numbers octets 2 kind spi frame rules some in
-      let all = under image numbers octets 2 kind spi frame rules some in
-      next 5 (tooShort (kindOf kind) (securityLength h) frame) _ _ _
+      let s = serves image numbers octets 2 said spi frame rules some in
+      let c = security image numbers octets 2 said spi frame rules some in
+      let z = ap length (text image numbers octets 2 said spi frame rules some) in
+      let m = mac image numbers octets 2 said spi frame rules some in
+      let l = last image numbers octets 2 said spi frame rules some in
+      let o = held-window image numbers octets 2 said spi frame rules some in
+      let v = number image numbers octets 2 said spi frame rules some in
+      let all = under image numbers octets 2 said spi frame rules some in
+      next answer.TooShort (tooShort (kindSaid said) (securityLength h) frame) _ _ _
       (λ t r. omega (arith, r d s, ltb-true (length frame) least t))
       (λ t. all _ (omega (arith, ltb-false (length frame) least t)))
-      (next 9 false _ _ _
+      (next answer.BadPadding false _ _ _
       (λ t r. differ false t refl)
       (λ t. all _ (omega arith))
-      (next 6 (ltb (length output) size) _ _ _
+      (next answer.NoRoom (ltb (length output) size) _ _ _
       (λ t r. omega (arith, r d s, ltb-true (length output) size t))
       (λ t. all _ (omega (arith, ltb-false (length output) size t)))
-      (next 7 (not right) _ _ _
-      (λ t r. differ right (m ∙ rw (r d s) (same-refl (macOn kind frame))) (not-true right t))
+      (next answer.WrongMac (not right) _ _ _
+      (λ t r. differ right (m ∙ rw (r d s) (same-refl (macOn said frame))) (not-true right t))
       (λ t. all _ (same-eq _ _ (sym m ∙ not-false right t)))
-      (next 8 (not inside) _ _ _
+      (next answer.OutsideWindow (not inside) _ _ _
       (λ t r.
       let x = r d s in
       differ inside (accepting (a .number) (h .window) n (omega (arith, x .above)) (omega (arith, x .near)) (omega (arith, x .most)))
@@ -256,7 +303,7 @@ module _ (image numbers : List ℕ) (octets : Octets image) (kind : ℕ) (frame 
       (λ t.
       let x = accepted (a .number) (h .window) n (not-false inside t) in
       all _ (record { above = omega (arith, x .above); near = omega (arith, x .near); most = omega (arith, x .fits) }))
-      last-done)))))
+      last-done))))))
 
 -- ---- all of them
 
@@ -264,12 +311,32 @@ pub answering : Answering
 unfolding secured securingReply securing checked checkedAs checkingReply checking
 answering =
     record {
-      loading = λ image numbers octets. exactly (loadRules image) (loaded image numbers .answer) (load-rules image numbers octets);
-      sending = λ image numbers kind spi frame output octets.
-          rw (left-answer (securingReply image numbers kind spi frame output) (securingEntry image kind spi frame) image numbers output)
-          (exactly (securingRules image numbers kind spi frame output) _ (sending-rules image numbers octets kind spi frame output));
-      checking = λ image numbers kind frame output octets.
-          rw (left-answer (checkingReply (comparison image numbers kind frame) image numbers kind frame output)
-          (checkingEntry image kind frame) image numbers output)
-          (exactly (checkingRules image numbers kind frame output) _ (checking-rules image numbers octets kind frame output));
+      table =
+          record {
+            zero = λ length stores. refl;
+            one = refl;
+            two = refl;
+            three = refl;
+            four = refl;
+            five = refl;
+            six = refl;
+            seven = refl;
+            eight = refl;
+            nine = refl;
+            ten = refl;
+            eleven = refl;
+          };
+      loading = λ image numbers octets.
+          exactly (loadRules image) (loaded image numbers)
+          (λ refuse. let u = refusals .loading image numbers refuse in (u .length, u .stores)) refl (load-rules image numbers octets);
+      sending = λ image numbers said spi frame output octets.
+          exactly (securingRules image numbers said spi frame output) (secured image numbers said spi frame output)
+          (λ refuse. let u = refusals .sending image numbers said spi frame output refuse in (u .length, u .stores)) refl
+          (rw (left-answer (securingReply image numbers said spi frame (length output)) image numbers output)
+          (sending-rules image numbers octets said spi frame output));
+      checking = λ image numbers said frame output octets.
+          exactly (checkingRules image numbers said frame output) (checked image numbers said frame output)
+          (λ refuse. let u = refusals .checking image numbers said frame output refuse in (u .length, u .stores)) refl
+          (rw (left-answer (checkingReply (comparison image numbers said frame) image numbers said frame (length output)) image numbers output)
+          (checking-rules image numbers octets said frame output));
     }

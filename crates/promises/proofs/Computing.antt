@@ -4,21 +4,25 @@ use lib.Count.{trailingZeros}
 use Rattle.octets.specs.Lists.{tab, part, all}
 use Rattle.octets.specs.Numbers.{number, bytes}
 use Rattle.octets.specs.Same.{same}
-use Rattle.frame.specs.Kinds.{named, tcWithLength}
-use Rattle.frame.specs.Parts.{headerOf, trailerOf, clearData, securityOf, securedData}
+use Rattle.headers.specs.Telecommand.{tcWithLength}
+use Rattle.kinds.specs.Kinds.{named}
+use Rattle.frame.specs.Parts.{headerOf, trailerOf, clearContent, securityOf, securedContent}
 use Rattle.frame.specs.Rules.{obeys}
 use Rattle.association.specs.Association.{associationOf, held, matching}
-use Rattle.association.specs.Body.{bodyOk}
-use Rattle.association.specs.Gray.{decoded}
-use Rattle.association.specs.Image.{bodyAt, bodyOf, laidOut, entryOk, validImage}
-use Rattle.association.specs.Numbers.{markIn, loadedNumbers, agrees}
+use Rattle.bodies.specs.Body.{bodyIn, bodyOk}
+use Rattle.marks.specs.Gray.{decoded}
+use Rattle.bodies.specs.Layout.{layoutOf}
+use Rattle.image.specs.Image.{bodyAt, bodyOf, markAt, markIn, keyAt, keyOf, imageSize, laidOut, entryOk, validImage}
+use Rattle.association.specs.Numbers.{loadedNumbers, agrees}
 use Rattle.association.specs.Search.{bodyServes, matches, firstFrom, entryFor}
-use Rattle.association.specs.Stores.{raises, markAt, storesFor, stored, afterStores}
+use Rattle.marks.specs.Stores.{steps, stored}
+use Rattle.association.specs.Stores.{planFor, afterStores}
 use Rattle.link.specs.Answers.{first}
 use Rattle.link.specs.Calls.{wanted, loaded, securingReply, secured, securedCut, checkingReply, checkedAs, checkedCutAs}
-use Rattle.link.specs.Protection.{securedFrame, fieldIn, textIn, numberIn, clearLength}
+use Rattle.protection.specs.Protection.{securedFrame, fieldIn, textIn, numberIn, clearLength}
 use Rattle.link.specs.Replies.{seen, securingTests, securing, checkingTests, checking}
-use Rattle.link.specs.Services.{service}
+use Rattle.protection.specs.Services.{service}
+use Rattle.promises.specs.Forms.{formOf}
 use Rattle.promises.specs.Cases.{imageOf, securedC, clearTc, room}
 
 unfoldable pub octets : Unit {0}
@@ -26,15 +30,20 @@ unfolding trailingZeros tab part all number bytes same
 octets = tt
 
 unfoldable pub frames : Unit {0}
-unfolding named tcWithLength headerOf trailerOf clearData securityOf securedData obeys
+unfolding named tcWithLength headerOf trailerOf clearContent securityOf securedContent obeys
 frames = tt
 
+-- in the promises' words
+unfoldable pub forms : Unit {0}
+unfolding formOf
+forms = tt
+
 unfoldable pub images : Unit {0}
-unfolding bodyOk decoded bodyAt bodyOf laidOut entryOk validImage markIn loadedNumbers agrees
+unfolding layoutOf bodyIn bodyOk decoded bodyAt bodyOf markAt markIn keyAt keyOf imageSize laidOut entryOk validImage loadedNumbers agrees
 images = tt
 
 unfoldable pub associations : Unit {0}
-unfolding associationOf held matching bodyServes matches firstFrom entryFor raises markAt storesFor stored afterStores
+unfolding associationOf held matching bodyServes matches firstFrom entryFor planFor steps stored afterStores
 associations = tt
 
 unfoldable pub replies : Unit {0}
@@ -51,5 +60,5 @@ unfolding imageOf securedC clearTc room
 examples = tt
 
 unfoldable pub everything : Unit {0}
-unfolding octets frames images associations replies calls examples
+unfolding octets frames forms images associations replies calls examples
 everything = tt

@@ -9,21 +9,23 @@ use native.Mathlib.Decide.{ℕ-discrete}
 use native.Mathlib.Omega.{arith}
 use borrow.Author.Tests.{eq-eqb, ne-eqb}
 use lib.Dec.{eqb}
-use lib.ListN.{length, set}
+use lib.ListN.{length, set, take}
 use lib.Seq.{getD-set-same, getD-set-other}
-use Rattle.association.specs.Image.{validImage}
-use Rattle.association.specs.Numbers.{markIn}
+use Rattle.image.specs.Image.{validImage, markIn}
 use Rattle.association.specs.Stores.{afterStores}
+use Rattle.marks.specs.declared.plans.Store.{Store}
+use Rattle.marks.specs.Stores.{stored}
 use Rattle.association.proofs.AfterStores.{Raised}
 use Rattle.association.proofs.LoadedNumbers.{agreed}
-use Rattle.association.proofs.ValidImages.{valid}
+use Rattle.image.proofs.ValidImages.{valid}
 use Rattle.link.specs.Calls.{Left, handed, left, cut, loaded, securingEntry, securingReply, secured, securedCut}
 use Rattle.link.specs.Calls.{comparison, checkingReply, checkingEntry, checkedAs, checked, checkedCutAs, checkedCut}
 use Rattle.link.specs.Replies.{Reply}
+use Rattle.link.specs.Said.{Said}
 use Rattle.link.proofs.Answered.{left-answer, left-done, left-refused, cut-done, cut-refused}
 use Rattle.promises.specs.Frames.{spiOn, numberOn}
 use Rattle.promises.specs.Images.{countIn, spiAt, serviceAt, directionAt, lastAt}
-use Rattle.promises.specs.Runs.{Step, load, send, check, sendCut, checkCut, State, kept, after, Shown, loading, sent, released, shows}
+use Rattle.promises.specs.Runs.{Step, load, send, check, sendCut, checkCut, State, kept, after, Shown, restart, sent, released, shows}
 use Rattle.promises.proofs.Keeps.{Good, Inv, loaded-last}
 use Rattle.promises.proofs.Released as releasing
 use Rattle.promises.proofs.Sent as sending
@@ -32,7 +34,7 @@ use Rattle.promises.proofs.Used.{Used, send-number, send-used, check-us
 
 pub data Effect (e : ℕ) (x y : State) (shown : List Shown) : Type 0 where
   quiet : shown ≡ [] → lastAt (y .numbers) e ≡ lastAt (x .numbers) e → Effect e x y shown
-  loads : shown ≡ loading ∷ []
+  loads : shown ≡ restart ∷ []
       → (validImage (x .image) ≡ true → lastAt (x .numbers) e ≤ lastAt (y .numbers) e)
       → (validImage (x .image) ≡ true → directionAt (x .image) e ≡ 1 → lastAt (y .numbers) e ≤ lastAt (x .numbers) e + 64)
       → Effect e x y shown
@@ -48,7 +50,7 @@ module _ (e : ℕ) (x : State) (inv : Inv x) (below : e < countIn (x .image)) wh
   abbrev last : List ℕ
   last = x .numbers
 
-  reloads : (any : List ℕ) → Effect e x (kept (loaded s any)) (loading ∷ [])
+  reloads : (any : List ℕ) → Effect e x (kept (loaded s any)) (restart ∷ [])
   reloads any =
       loads refl
       (λ passed. omega (arith, loaded-last s any passed e below, agreed s last (inv .good passed .agree) e below))
@@ -56,7 +58,7 @@ module _ (e : ℕ) (x : State) (inv : Inv x) (below : e < countIn (x .image)) wh
 
   -- ---- a call that answers 0, at entry d
 
-  module _ (direction kind spi : ℕ) (frame : List ℕ) (d room : ℕ) (q : Reply) (u : Used s last direction kind spi frame d room q) where
+  module _ (direction : ℕ) (said : Said) (spi : ℕ) (frame : List ℕ) (d room : ℕ) (q : Reply) (u : Used s last direction said spi frame d room q) where
     abbrev stopped : ℕ → List ℕ
     stopped j = afterStores s d (q .number) j
 
@@ -67,15 +69,21 @@ module _ (e : ℕ) (x : State) (inv : Inv x) (below : e < countIn (x .image)) wh
     listed = omega (arith, good .thirtyTwo, valid s (u .valid) .laid .count, u .serves .entry)
 
     -- the entry's own, and another
-    own-number : d ≡ e → lastAt (set last d (q .number)) e ≡ q .number
-    own-number own = ap (lastAt (set last d (q .number))) (sym own) ∙ getD-set-same last d (q .number) 0 listed
+    own-number : d ≡ e → lastAt (set last (q .entry) (q .number)) e ≡ q .number
+    own-number own =
+        rw (u .entry) (ap (lastAt (set last d (q .number))) (sym own) ∙ getD-set-same last d (q .number) 0 listed)
 
-    other-number : (spi ≡ spiAt s e → ⊥) → lastAt (set last d (q .number)) e ≡ lastAt last e
-    other-number other = getD-set-other last d e (q .number) 0 (λ own. other (sym (u .serves .spis) ∙ ap (spiAt s) (sym own)))
+    other-number : (spi ≡ spiAt s e → ⊥) → lastAt (set last (q .entry) (q .number)) e ≡ lastAt last e
+    other-number other =
+        rw (u .entry) (getD-set-other last d e (q .number) 0 (λ own. other (sym (u .serves .spis) ∙ ap (spiAt s) (sym own))))
+
+    cut-short : (j : ℕ) → stored s (take j (q .stores)) ≡ stopped j
+    unfolding afterStores
+    cut-short j = ap (λ (l : List Store). stored s (take j l)) (u .plan)
 
     -- cut and loaded: no mark falls, and that of an entry that sends rises only where its next number needs it
     r : (j : ℕ) → Raised s d (markIn s d + min j (q .number / 64 - markIn s d)) (stopped j)
-    r j = raising s last (inv .octets) direction kind spi frame d room q u j
+    r j = raising s last (inv .octets) direction said spi frame d room q u j
 
     rising : (j : ℕ) → markIn s e ≤ markIn (stopped j) e
     rising j = by-entry (ℕ-discrete e d)
@@ -95,7 +103,7 @@ module _ (e : ℕ) (x : State) (inv : Inv x) (below : e < countIn (x .image)) wh
         by-entry (no other) = omega (arith, r j .otherMark e other, agreed s last (good .agree) e below)
 
     stops : (j : ℕ) (any : List ℕ) → (direction ≡ 1 → q .number ≡ lastAt last d + 1)
-        → Effect e x (kept (loaded (stopped j) any)) (loading ∷ [])
+        → Effect e x (kept (loaded (stopped j) any)) (restart ∷ [])
     stops j any next =
         let new = loaded-last (stopped j) any (r j .valid) e (rw (r j .count) below) in
         loads refl
@@ -104,81 +112,83 @@ module _ (e : ℕ) (x : State) (inv : Inv x) (below : e < countIn (x .image)) wh
 
   -- ---- a call, by its answer and its SPI
 
-  calls : (direction kind spi : ℕ) (frame output : List ℕ) (d : ℕ) (q : Reply) (y : Left) (shown : List Shown)
-      → y ≡ left q d s last output
-      → (q .answer ≡ 0 → Used s last direction kind spi frame d (length output) q)
+  calls : (direction : ℕ) (said : Said) (spi : ℕ) (frame output : List ℕ) (d : ℕ) (q : Reply) (y : Left) (shown : List Shown)
+      → y ≡ left q s last output
+      → (q .answer ≡ 0 → Used s last direction said spi frame d (length output) q)
       → (spi ≡ spiAt s e → y .answer ≡ 0 → Effect e x (kept y) shown)
       → Effect e x (kept y) (cond (eqb (y .answer) 0 && eqb spi (spiAt s e)) shown [])
-  calls direction kind spi frame output d q y shown is-left used here =
+  calls direction said spi frame output d q y shown is-left used here =
       by-answer (ℕ-discrete (y .answer) 0) (ℕ-discrete spi (spiAt s e))
     where
       answer : y .answer ≡ q .answer
-      answer = ap (λ (l : Left). l .answer) is-left ∙ left-answer q d s last output
+      answer = ap (λ (l : Left). l .answer) is-left ∙ left-answer q s last output
 
       by-answer : Dec (y .answer ≡ 0) → Dec (spi ≡ spiAt s e)
           → Effect e x (kept y) (cond (eqb (y .answer) 0 && eqb spi (spiAt s e)) shown [])
       by-answer (yes z) (yes own) = rw (eq-eqb (y .answer) 0 z, eq-eqb spi (spiAt s e) own) (here own z)
       by-answer (yes z) (no other) =
           let done-so = sym answer ∙ z in
-          rw (eq-eqb (y .answer) 0 z, ne-eqb spi (spiAt s e) other, is-left ∙ left-done q d s last output done-so)
-          (quiet refl (other-number direction kind spi frame d (length output) q (used done-so) other))
+          rw (eq-eqb (y .answer) 0 z, ne-eqb spi (spiAt s e) other, is-left ∙ left-done q s last output done-so)
+          (quiet refl (other-number direction said spi frame d (length output) q (used done-so) other))
       by-answer (no z) own =
-          rw (ne-eqb (y .answer) 0 z, is-left ∙ left-refused q d s last output (λ done-so. z (answer ∙ done-so))) (quiet refl refl)
+          rw (ne-eqb (y .answer) 0 z, is-left ∙ left-refused q s last output (λ done-so. z (answer ∙ done-so))) (quiet refl refl)
 
-  cuts : (direction kind spi : ℕ) (frame output : List ℕ) (d : ℕ) (q : Reply) (j : ℕ) (any : List ℕ)
-      → (q .answer ≡ 0 → Used s last direction kind spi frame d (length output) q)
+  cuts : (direction : ℕ) (said : Said) (spi : ℕ) (frame output : List ℕ) (d : ℕ) (q : Reply) (j : ℕ) (any : List ℕ)
+      → (q .answer ≡ 0 → Used s last direction said spi frame d (length output) q)
       → (q .answer ≡ 0 → direction ≡ 1 → q .number ≡ lastAt last d + 1)
-      → Effect e x (kept (loaded (cut q d s j) any)) (loading ∷ [])
-  cuts direction kind spi frame output d q j any used next = by-answer (ℕ-discrete (q .answer) 0)
+      → Effect e x (kept (loaded (cut q s j) any)) (restart ∷ [])
+  cuts direction said spi frame output d q j any used next = by-answer (ℕ-discrete (q .answer) 0)
     where
-      by-answer : Dec (q .answer ≡ 0) → Effect e x (kept (loaded (cut q d s j) any)) (loading ∷ [])
-      by-answer (yes z) = rw (cut-done q d s j z) (stops direction kind spi frame d (length output) q (used z) j any (next z))
-      by-answer (no z) = rw (cut-refused q d s j z) (reloads any)
+      by-answer : Dec (q .answer ≡ 0) → Effect e x (kept (loaded (cut q s j) any)) (restart ∷ [])
+      by-answer (yes z) =
+          rw (cut-done q s j z ∙ cut-short direction said spi frame d (length output) q (used z) j)
+          (stops direction said spi frame d (length output) q (used z) j any (next z))
+      by-answer (no z) = rw (cut-refused q s j z) (reloads any)
 
   -- ---- under the entry's own SPI
 
-  sent-own : (kind spi : ℕ) (frame output : List ℕ) → let y = secured s last kind spi frame output in
-      spi ≡ spiAt s e → y .answer ≡ 0 → Effect e x (kept y) (sent (numberOn (serviceAt s e) kind (handed y)) ∷ [])
-  sent-own kind spi frame output own done-so =
-      let u = sending.used s last kind spi frame output e below (sym own) done-so in
-      let q = sending.reply s last kind spi frame output e below (sym own) done-so in
+  sent-own : (said : Said) (spi : ℕ) (frame output : List ℕ) → let y = secured s last said spi frame output in
+      spi ≡ spiAt s e → y .answer ≡ 0 → Effect e x (kept y) (sent (numberOn (serviceAt s e) said (handed y)) ∷ [])
+  sent-own said spi frame output own done-so =
+      let u = sending.used s last said spi frame output e below (sym own) done-so in
+      let q = sending.reply s last said spi frame output e below (sym own) done-so in
       rw (
-        sending.made s last kind spi frame output e below (sym own) done-so .number,
-        sending.whole s last kind spi frame output e below (sym own) done-so,
+        sending.made s last said spi frame output e below (sym own) done-so .number,
+        sending.whole s last said spi frame output e below (sym own) done-so,
       )
       (sends (u .valid) (u .serves .directions) refl
-      (own-number 1 kind spi frame e (length output) q u refl ∙ sending.number s last kind spi frame output e below (sym own) done-so))
+      (own-number 1 said spi frame e (length output) q u refl ∙ sending.number s last said spi frame output e below (sym own) done-so))
 
-  released-own : (kind : ℕ) (frame output : List ℕ) → let y = checked s last kind frame output in
-      spiOn kind frame ≡ spiAt s e → y .answer ≡ 0 → Effect e x (kept y) (released (numberOn (serviceAt s e) kind frame) ∷ [])
-  released-own kind frame output own done-so =
-      let u = releasing.used s last kind frame output e below (sym own) done-so in
-      let q = releasing.reply s last kind frame output e below (sym own) done-so in
-      let n = releasing.number s last kind frame output e below (sym own) done-so in
-      rw (releasing.whole s last kind frame output e below (sym own) done-so)
-      (frees (numberOn (serviceAt s e) kind frame) (u .valid) (u .serves .directions) refl (rw (← n) (u .above))
-      (own-number 2 kind (spiOn kind frame) frame e (length output) q u refl ∙ n))
+  released-own : (said : Said) (frame output : List ℕ) → let y = checked s last said frame output in
+      spiOn said frame ≡ spiAt s e → y .answer ≡ 0 → Effect e x (kept y) (released (numberOn (serviceAt s e) said frame) ∷ [])
+  released-own said frame output own done-so =
+      let u = releasing.used s last said frame output e below (sym own) done-so in
+      let q = releasing.reply s last said frame output e below (sym own) done-so in
+      let n = releasing.number s last said frame output e below (sym own) done-so in
+      rw (releasing.whole s last said frame output e below (sym own) done-so)
+      (frees (numberOn (serviceAt s e) said frame) (u .valid) (u .serves .directions) refl (rw (← n) (u .above))
+      (own-number 2 said (spiOn said frame) frame e (length output) q u refl ∙ n))
 
 -- ---- every step
 
 pub effect : (e : ℕ) (x : State) (v : Step) → Inv x → e < countIn (x .image) → Effect e x (after x v) (shows e x v)
 unfolding after shows secured securedCut checked checkedAs checkedCut checkedCutAs
 effect e x (load any) inv below = reloads e x inv below any
-effect e x (send kind spi frame output) inv below =
-    calls e x inv below 1 kind spi frame output (securingEntry (x .image) kind spi frame)
-    (securingReply (x .image) (x .numbers) kind spi frame output) _ _ refl (send-used (x .image) (x .numbers) kind spi frame output)
-    (sent-own e x inv below kind spi frame output)
-effect e x (check kind frame output) inv below =
-    let right = comparison (x .image) (x .numbers) kind frame in
-    calls e x inv below 2 kind (spiOn kind frame) frame output (checkingEntry (x .image) kind frame)
-    (checkingReply right (x .image) (x .numbers) kind frame output) _ _ refl (check-used right (x .image) (x .numbers) kind frame output)
-    (released-own e x inv below kind frame output)
-effect e x (sendCut kind spi frame output j any) inv below =
-    cuts e x inv below 1 kind spi frame output (securingEntry (x .image) kind spi frame)
-    (securingReply (x .image) (x .numbers) kind spi frame output) j any (send-used (x .image) (x .numbers) kind spi frame output)
-    (λ z one. send-number (x .image) (x .numbers) kind spi frame output z)
-effect e x (checkCut kind frame output j any) inv below =
-    let right = comparison (x .image) (x .numbers) kind frame in
-    cuts e x inv below 2 kind (spiOn kind frame) frame output (checkingEntry (x .image) kind frame)
-    (checkingReply right (x .image) (x .numbers) kind frame output) j any (check-used right (x .image) (x .numbers) kind frame output)
+effect e x (send said spi frame output) inv below =
+    calls e x inv below 1 said spi frame output (securingEntry (x .image) said spi frame)
+    (securingReply (x .image) (x .numbers) said spi frame (length output)) _ _ refl (send-used (x .image) (x .numbers) said spi frame output)
+    (sent-own e x inv below said spi frame output)
+effect e x (check said frame output) inv below =
+    let right = comparison (x .image) (x .numbers) said frame in
+    calls e x inv below 2 said (spiOn said frame) frame output (checkingEntry (x .image) said frame)
+    (checkingReply right (x .image) (x .numbers) said frame (length output)) _ _ refl (check-used right (x .image) (x .numbers) said frame output)
+    (released-own e x inv below said frame output)
+effect e x (sendCut said spi frame output j any) inv below =
+    cuts e x inv below 1 said spi frame output (securingEntry (x .image) said spi frame)
+    (securingReply (x .image) (x .numbers) said spi frame (length output)) j any (send-used (x .image) (x .numbers) said spi frame output)
+    (λ z one. send-number (x .image) (x .numbers) said spi frame output z)
+effect e x (checkCut said frame output j any) inv below =
+    let right = comparison (x .image) (x .numbers) said frame in
+    cuts e x inv below 2 said (spiOn said frame) frame output (checkingEntry (x .image) said frame)
+    (checkingReply right (x .image) (x .numbers) said frame (length output)) j any (check-used right (x .image) (x .numbers) said frame output)
     (λ z one. absurd (omega arith))

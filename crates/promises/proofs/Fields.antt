@@ -1,75 +1,80 @@
 -- A field of an entry, which the definitions read in the entry's body, stands in the image at the place that the promises name.
 -- Assumes nothing.
-use Prim.Native.Nat.{ℕ}
+use Prim.Native.Nat.{ℕ, _+_, _≤_, _<_}
 use mathlib.Core.Path.{_≡_, sym, ap, _∙_}
 use mathlib.Core.List.{List}
 use native.Mathlib.Nat.{add-zero}
 use native.Mathlib.Omega.{arith}
 use Rattle.octets.specs.Lists.{octet, part}
-use Rattle.octets.proofs.Numbers.{numberAt-part}
-use Rattle.octets.proofs.Parts.{octet-part, part-part}
-use Rattle.association.specs.Body.{serviceOf, kindIn, directionOf, stateOf, spacecraftOf, channelOf, mapOf, windowOf, maskOf, keyOf}
-use Rattle.association.specs.Gray.{ungray}
-use Rattle.association.specs.Image.{versionOf, bodyAt, bodyOf}
-use Rattle.association.specs.Numbers.{markIn}
-use Rattle.association.specs.Stores.{markAt}
-use Rattle.association.proofs.Places.{octet-body, mark-at}
+use Rattle.octets.specs.Numbers.{numberAt}
+use Rattle.octets.proofs.Parts.{octet-part}
+use Rattle.bodies.specs.Body.{serviceOf, kindIn, directionOf, stateOf, spacecraftOf, channelOf, mapOf, windowOf, maskOf, bodyIn}
+use Rattle.marks.specs.Gray.{ungray}
+use Rattle.image.specs.Image.{bodyAt, bodyOf, markAt, markIn, keyOf}
+use Rattle.bodies.specs.Layout.{layoutOf}
+use Rattle.image.proofs.Places.{octet-body, number-body, part-body, key-body, mark-at}
 use Rattle.promises.specs.Images.{place, serviceAt, kindAt, directionAt, stateAt, spacecraftAt, channelAt, mapAt, windowAt, maskAt}
 use Rattle.promises.specs.Images.{keyAt, codeAt, wholeBodyAt}
 
 module _ (image : List ℕ) (i : ℕ) where
+  -- where octet j of the body stands, and what is read from there on
+  pub stands : (j : ℕ) → bodyAt image i + j ≡ place image i j
+  unfolding bodyAt layoutOf
+  stands j = omega arith
+
+  octet-at : (j : ℕ) → j < 52 → octet (bodyOf image i) j ≡ octet image (place image i j)
+  unfolding layoutOf
+  octet-at j h = octet-body image i j h ∙ ap (octet image) (stands j)
+
+  number-at : (j n : ℕ) → j + n ≤ 52 → numberAt j n (bodyOf image i) ≡ numberAt (place image i j) n image
+  unfolding layoutOf
+  number-at j n h = number-body image i j n h ∙ ap (λ (p : ℕ). numberAt p n image) (stands j)
+
+  part-at : (j n : ℕ) → j + n ≤ 52 → part j n (bodyOf image i) ≡ part (place image i j) n image
+  unfolding layoutOf
+  part-at j n h = part-body image i j n h ∙ ap (λ (p : ℕ). part p n image) (stands j)
+
   pub service-at : serviceOf (bodyOf image i) ≡ serviceAt image i
-  unfolding bodyAt
-  service-at = octet-body image i 0 (omega arith)
+  service-at = octet-at 0 (omega arith)
 
   pub kind-at : kindIn (bodyOf image i) ≡ kindAt image i
-  unfolding bodyAt
-  kind-at = octet-body image i 1 (omega arith)
+  kind-at = octet-at 1 (omega arith)
 
   pub direction-at : directionOf (bodyOf image i) ≡ directionAt image i
-  unfolding bodyAt
-  direction-at = octet-body image i 2 (omega arith)
+  direction-at = octet-at 2 (omega arith)
 
   pub state-at : stateOf (bodyOf image i) ≡ stateAt image i
-  unfolding bodyAt
-  state-at = octet-body image i 3 (omega arith)
+  state-at = octet-at 3 (omega arith)
 
   pub spacecraft-at : spacecraftOf (bodyOf image i) ≡ spacecraftAt image i
-  unfolding bodyOf bodyAt
-  spacecraft-at = numberAt-part (bodyAt image i) 52 4 2 image (omega arith)
+  spacecraft-at = number-at 4 2 (omega arith)
 
   pub channel-at : channelOf (bodyOf image i) ≡ channelAt image i
-  unfolding bodyAt
-  channel-at = octet-body image i 6 (omega arith)
+  channel-at = octet-at 6 (omega arith)
 
   pub map-at : mapOf (bodyOf image i) ≡ mapAt image i
-  unfolding bodyAt
-  map-at = octet-body image i 7 (omega arith)
+  map-at = octet-at 7 (omega arith)
 
   pub window-at : windowOf (bodyOf image i) ≡ windowAt image i
-  unfolding bodyOf bodyAt
-  window-at = numberAt-part (bodyAt image i) 52 8 2 image (omega arith)
+  window-at = number-at 8 2 (omega arith)
 
   pub mask-at : maskOf (bodyOf image i) ≡ maskAt image i
-  unfolding bodyOf bodyAt
-  mask-at = part-part (bodyAt image i) 52 10 6 image (omega arith)
+  mask-at = part-at 10 6 (omega arith)
 
   pub last-mask-at : octet (maskOf (bodyOf image i)) 5 ≡ octet image (place image i 15)
-  unfolding bodyAt
-  last-mask-at = octet-part 10 6 (bodyOf image i) 5 (omega arith) ∙ octet-body image i 15 (omega arith)
+  last-mask-at = octet-part 10 6 (bodyOf image i) 5 (omega arith) ∙ octet-at 15 (omega arith)
 
-  pub key-at : keyOf (versionOf image) (bodyOf image i) ≡ keyAt image i
-  unfolding bodyOf bodyAt
-  key-at = part-part (bodyAt image i) 52 16 32 image (omega arith)
-
-  pub mark-is : markIn image i ≡ ungray (codeAt image i)
-  unfolding bodyAt markAt
-  mark-is = mark-at image i
-
-  pub body-is : bodyOf image i ≡ wholeBodyAt image i
-  unfolding bodyOf bodyAt
-  body-is = ap (λ (at : ℕ). part at 52 image) (sym (add-zero (bodyAt image i)))
+  pub key-at : keyOf image i ≡ keyAt image i
+  unfolding layoutOf
+  key-at = key-body image i ∙ part-at 16 32 (omega arith)
 
   pub mark-place : markAt image i ≡ place image i 48
-  unfolding bodyAt markAt
-  mark-place = omega arith
+  unfolding markAt layoutOf
+  mark-place = stands 48
+
+  pub mark-is : markIn image i ≡ ungray (codeAt image i)
+  mark-is = mark-at image i ∙ ap (λ (p : ℕ). ungray (numberAt p 4 image)) mark-place
+
+  pub body-is : bodyOf image i ≡ wholeBodyAt image i
+  unfolding bodyOf bodyIn layoutOf
+  body-is = ap (λ (p : ℕ). part p 52 image) (sym (add-zero (bodyAt image i)) ∙ stands 0)

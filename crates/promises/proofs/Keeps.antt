@@ -5,21 +5,24 @@ use mathlib.Core.Path.{_≡_, refl, sym, ap, _∙_}
 use mathlib.Core.Bool.{Bool, true, false, cond}
 use mathlib.Core.List.{List, []}
 use native.Mathlib.Decide.{ℕ-discrete}
-use lib.ListN.{length, length-set}
+use lib.ListN.{length, take, length-set}
 use Rattle.octets.specs.Lists.{Octets}
-use Rattle.association.specs.Image.{countOf, validImage}
-use Rattle.association.specs.Numbers.{markIn, loadedNumbers, agrees}
+use Rattle.image.specs.Image.{countOf, validImage, markIn}
+use Rattle.association.specs.Numbers.{loadedNumbers, agrees}
 use Rattle.association.specs.Stores.{afterStores}
+use Rattle.marks.specs.declared.plans.Store.{Store}
+use Rattle.marks.specs.Stores.{stored}
 use Rattle.association.proofs.LoadedNumbers.{length-loaded, loaded-entry, load-agrees}
-use Rattle.association.proofs.ValidImages.{valid}
+use Rattle.image.proofs.ValidImages.{valid}
 use Rattle.link.specs.Calls.{refused, done, left, cut, loaded, securingEntry, securingReply, secured, securedCut}
 use Rattle.link.specs.Calls.{comparison, checkingReply, checkingEntry, checkedAs, checked, checkedCutAs, checkedCut}
 use Rattle.link.specs.Replies.{Reply}
+use Rattle.link.specs.Said.{Said}
 use Rattle.link.proofs.Answered.{left-done, left-refused, cut-done, cut-refused}
 use Rattle.promises.specs.Frames.{spiOn}
 use Rattle.promises.specs.Images.{lastAt}
 use Rattle.promises.specs.Runs.{Step, load, send, check, sendCut, checkCut, State, kept, after}
-use Rattle.promises.proofs.Stored.{raising, agree-again, outside}
+use Rattle.promises.proofs.Stored.{raising, all-after, agree-again, outside}
 use Rattle.promises.proofs.Unmarked.{Same, same-refl}
 use Rattle.promises.proofs.Used.{Used, send-used, check-used}
 
@@ -93,71 +96,78 @@ module _ (x : State) (inv : Inv x) where
 
   -- ---- a call with that reply at entry d
 
-  module _ (direction kind spi : ℕ) (frame : List ℕ) (d room : ℕ) (q : Reply)
-      (used : q .answer ≡ 0 → Used s last direction kind spi frame d room q) where
+  module _ (direction : ℕ) (said : Said) (spi : ℕ) (frame : List ℕ) (d room : ℕ) (q : Reply)
+      (used : q .answer ≡ 0 → Used s last direction said spi frame d room q) where
     module _ (z : q .answer ≡ 0) where
       abbrev stopped : ℕ → List ℕ
       stopped j = afterStores s d (q .number) j
 
       stopped-octets : (j : ℕ) → Octets (stopped j)
-      stopped-octets j = raising s last (inv .octets) direction kind spi frame d room q (used z) j .octets
+      stopped-octets j = raising s last (inv .octets) direction said spi frame d room q (used z) j .octets
 
       stopped-same : (j : ℕ) → Same s (stopped j)
       stopped-same j =
-          let r = raising s last (inv .octets) direction kind spi frame d room q (used z) j in
+          let r = raising s last (inv .octets) direction said spi frame d room q (used z) j in
           record { size = r .long; elsewhere = λ p m. r .outside p (outside s d p (m d (used z .serves .entry))) }
 
       stopped-valid : (j : ℕ) → validImage (stopped j) ≡ validImage s
-      stopped-valid j = raising s last (inv .octets) direction kind spi frame d room q (used z) j .valid ∙ sym (used z .valid)
+      stopped-valid j = raising s last (inv .octets) direction said spi frame d room q (used z) j .valid ∙ sym (used z .valid)
 
-      done-keeps : (output : List ℕ) → Keeps x (kept (done q d s last output))
+      whole : stored s (q .stores) ≡ stopped (length (q .stores))
+      whole = all-after s last (inv .octets) direction said spi frame d room q (used z)
+
+      cut-short : (j : ℕ) → stored s (take j (q .stores)) ≡ stopped j
+      unfolding afterStores
+      cut-short j = ap (λ (l : List Store). stored s (take j l)) (used z .plan)
+
+      done-keeps : (output : List ℕ) → Keeps x (kept (done q s last output))
       done-keeps output =
           let thirtyTwo = inv .good (used z .valid) .thirtyTwo in
           record {
             inv =
                 record {
-                  octets = stopped-octets (q .stores);
+                  octets = rw whole (stopped-octets (length (q .stores)));
                   good = λ passed.
                       record {
-                        thirtyTwo = length-set last d (q .number) ∙ thirtyTwo;
-                        agree = agree-again s last (inv .octets) direction kind spi frame d room q (used z) thirtyTwo;
+                        thirtyTwo = length-set last (q .entry) (q .number) ∙ thirtyTwo;
+                        agree = agree-again s last (inv .octets) direction said spi frame d room q (used z) thirtyTwo;
                       };
                 };
-            stays = stopped-valid (q .stores);
-            same = stopped-same (q .stores);
+            stays = rw whole (stopped-valid (length (q .stores)));
+            same = rw whole (stopped-same (length (q .stores)));
           }
 
-    call-keeps : (output : List ℕ) → Keeps x (kept (left q d s last output))
+    call-keeps : (output : List ℕ) → Keeps x (kept (left q s last output))
     call-keeps output = by-answer (ℕ-discrete (q .answer) 0)
       where
-        by-answer : Dec (q .answer ≡ 0) → Keeps x (kept (left q d s last output))
-        by-answer (yes z) = rw (left-done q d s last output z) (done-keeps z output)
-        by-answer (no z) = rw (left-refused q d s last output z) unchanged
+        by-answer : Dec (q .answer ≡ 0) → Keeps x (kept (left q s last output))
+        by-answer (yes z) = rw (left-done q s last output z) (done-keeps z output)
+        by-answer (no z) = rw (left-refused q s last output z) unchanged
 
-    cut-keeps : (j : ℕ) (any : List ℕ) → Keeps x (kept (loaded (cut q d s j) any))
+    cut-keeps : (j : ℕ) (any : List ℕ) → Keeps x (kept (loaded (cut q s j) any))
     cut-keeps j any = by-answer (ℕ-discrete (q .answer) 0)
       where
-        by-answer : Dec (q .answer ≡ 0) → Keeps x (kept (loaded (cut q d s j) any))
+        by-answer : Dec (q .answer ≡ 0) → Keeps x (kept (loaded (cut q s j) any))
         by-answer (yes z) =
-            rw (cut-done q d s j z) (load-keeps (stopped z j) any (stopped-octets z j) (stopped-valid z j) (stopped-same z j))
-        by-answer (no z) = rw (cut-refused q d s j z) (reload-keeps any)
+            rw (cut-done q s j z ∙ cut-short z j) (load-keeps (stopped z j) any (stopped-octets z j) (stopped-valid z j) (stopped-same z j))
+        by-answer (no z) = rw (cut-refused q s j z) (reload-keeps any)
 
 -- ---- every step
 
 pub keeps : (x : State) (v : Step) → Inv x → Keeps x (after x v)
 unfolding after secured securedCut checked checkedAs checkedCut checkedCutAs
 keeps x (load any) inv = reload-keeps x inv any
-keeps x (send kind spi frame output) inv =
-    call-keeps x inv 1 kind spi frame (securingEntry (x .image) kind spi frame) (length output)
-    (securingReply (x .image) (x .numbers) kind spi frame output) (send-used (x .image) (x .numbers) kind spi frame output) output
-keeps x (check kind frame output) inv =
-    let right = comparison (x .image) (x .numbers) kind frame in
-    call-keeps x inv 2 kind (spiOn kind frame) frame (checkingEntry (x .image) kind frame) (length output)
-    (checkingReply right (x .image) (x .numbers) kind frame output) (check-used right (x .image) (x .numbers) kind frame output) output
-keeps x (sendCut kind spi frame output j any) inv =
-    cut-keeps x inv 1 kind spi frame (securingEntry (x .image) kind spi frame) (length output)
-    (securingReply (x .image) (x .numbers) kind spi frame output) (send-used (x .image) (x .numbers) kind spi frame output) j any
-keeps x (checkCut kind frame output j any) inv =
-    let right = comparison (x .image) (x .numbers) kind frame in
-    cut-keeps x inv 2 kind (spiOn kind frame) frame (checkingEntry (x .image) kind frame) (length output)
-    (checkingReply right (x .image) (x .numbers) kind frame output) (check-used right (x .image) (x .numbers) kind frame output) j any
+keeps x (send said spi frame output) inv =
+    call-keeps x inv 1 said spi frame (securingEntry (x .image) said spi frame) (length output)
+    (securingReply (x .image) (x .numbers) said spi frame (length output)) (send-used (x .image) (x .numbers) said spi frame output) output
+keeps x (check said frame output) inv =
+    let right = comparison (x .image) (x .numbers) said frame in
+    call-keeps x inv 2 said (spiOn said frame) frame (checkingEntry (x .image) said frame) (length output)
+    (checkingReply right (x .image) (x .numbers) said frame (length output)) (check-used right (x .image) (x .numbers) said frame output) output
+keeps x (sendCut said spi frame output j any) inv =
+    cut-keeps x inv 1 said spi frame (securingEntry (x .image) said spi frame) (length output)
+    (securingReply (x .image) (x .numbers) said spi frame (length output)) (send-used (x .image) (x .numbers) said spi frame output) j any
+keeps x (checkCut said frame output j any) inv =
+    let right = comparison (x .image) (x .numbers) said frame in
+    cut-keeps x inv 2 said (spiOn said frame) frame (checkingEntry (x .image) said frame) (length output)
+    (checkingReply right (x .image) (x .numbers) said frame (length output)) (check-used right (x .image) (x .numbers) said frame output) j any

@@ -8,12 +8,13 @@ use mathlib.Core.List.{List, []}
 use native.Mathlib.Omega.{arith}
 use lib.ListN.{length}
 use Rattle.octets.specs.Lists.{Octets}
-use Rattle.association.specs.Image.{validImage}
+use Rattle.image.specs.Image.{validImage}
 use Rattle.association.specs.Numbers.{loadedNumbers}
 use Rattle.association.proofs.LoadedNumbers.{length-loaded, loaded-entry, loaded-none, load-agrees}
-use Rattle.association.proofs.ValidImages.{valid}
+use Rattle.image.proofs.ValidImages.{valid}
 use Rattle.link.specs.Calls.{refused, done, loaded, secured, checked}
 use Rattle.link.specs.Replies.{Reply}
+use Rattle.link.specs.Said.{Said}
 use Rattle.promises.specs.Frames.{spiOn}
 use Rattle.promises.specs.Images.{countIn, spiAt}
 use Rattle.promises.specs.Leaves.{Leaves, Loaded, Sending, Checking, Leaving}
@@ -46,58 +47,58 @@ module _ (image numbers : List ℕ) (octets : Octets image) where
 
 -- ---- a sending
 
-module _ (image numbers : List ℕ) (kind spi : ℕ) (frame output : List ℕ) (e : ℕ) (octets : Octets image) (thirtyTwo : length numbers ≡ 32)
-    (below : e < countIn image) (spis : spiAt image e ≡ spi) (done-so : secured image numbers kind spi frame output .answer ≡ 0) where
+module _ (image numbers : List ℕ) (said : Said) (spi : ℕ) (frame output : List ℕ) (e : ℕ) (octets : Octets image) (thirtyTwo : length numbers ≡ 32)
+    (below : e < countIn image) (spis : spiAt image e ≡ spi) (done-so : secured image numbers said spi frame output .answer ≡ 0) where
   abbrev s : Reply
-  s = sent.reply image numbers kind spi frame output e below spis done-so
+  s = sent.reply image numbers said spi frame output e below spis done-so
 
-  whole-sending : secured image numbers kind spi frame output ≡ done s e image numbers output
-  whole-sending = sent.whole image numbers kind spi frame output e below spis done-so
+  whole-sending : secured image numbers said spi frame output ≡ done s image numbers output
+  whole-sending = sent.whole image numbers said spi frame output e below spis done-so
 
-  used-sending : Used image numbers 1 kind spi frame e (length output) s
-  used-sending = sent.used image numbers kind spi frame output e below spis done-so
+  used-sending : Used image numbers 1 said spi frame e (length output) s
+  used-sending = sent.used image numbers said spi frame output e below spis done-so
 
-  send-leaves : Sending image numbers kind spi frame output e (secured image numbers kind spi frame output)
+  send-leaves : Sending image numbers said spi frame output e (secured image numbers said spi frame output)
   send-leaves =
       record {
         leaves =
-            subst (λ (n : ℕ). Leaves image numbers output e n (secured image numbers kind spi frame output))
-            (sent.number image numbers kind spi frame output e below spis done-so)
+            subst (λ (n : ℕ). Leaves image numbers output e n (secured image numbers said spi frame output))
+            (sent.number image numbers said spi frame output e below spis done-so)
             (rw whole-sending
-            (leaves image numbers octets 1 kind spi frame e (length output) s used-sending thirtyTwo output (used-sending .roomy)));
-        out = sent.made image numbers kind spi frame output e below spis done-so;
+            (leaves image numbers octets 1 said spi frame e (length output) s used-sending thirtyTwo output (used-sending .roomy)));
+        out = sent.made image numbers said spi frame output e below spis done-so;
         cut = λ j.
-            rw (whole-sending, sent.cut-image image numbers kind spi frame output e below spis done-so j)
-            (mark-alone image numbers octets 1 kind spi frame e (length output) s used-sending j);
+            rw (whole-sending, sent.cut-image image numbers said spi frame output e below spis done-so j)
+            (mark-alone image numbers octets 1 said spi frame e (length output) s used-sending j);
       }
 
 -- ---- a check
 
-module _ (image numbers : List ℕ) (kind : ℕ) (frame output : List ℕ) (e : ℕ) (octets : Octets image) (thirtyTwo : length numbers ≡ 32)
-    (below : e < countIn image) (spis : spiAt image e ≡ spiOn kind frame)
-    (done-so : checked image numbers kind frame output .answer ≡ 0) where
+module _ (image numbers : List ℕ) (said : Said) (frame output : List ℕ) (e : ℕ) (octets : Octets image) (thirtyTwo : length numbers ≡ 32)
+    (below : e < countIn image) (spis : spiAt image e ≡ spiOn said frame)
+    (done-so : checked image numbers said frame output .answer ≡ 0) where
   abbrev c : Reply
-  c = released.reply image numbers kind frame output e below spis done-so
+  c = released.reply image numbers said frame output e below spis done-so
 
-  whole-check : checked image numbers kind frame output ≡ done c e image numbers output
-  whole-check = released.whole image numbers kind frame output e below spis done-so
+  whole-check : checked image numbers said frame output ≡ done c image numbers output
+  whole-check = released.whole image numbers said frame output e below spis done-so
 
-  used-check : Used image numbers 2 kind (spiOn kind frame) frame e (length output) c
-  used-check = released.used image numbers kind frame output e below spis done-so
+  used-check : Used image numbers 2 said (spiOn said frame) frame e (length output) c
+  used-check = released.used image numbers said frame output e below spis done-so
 
-  check-leaves : Checking image numbers kind frame output e (checked image numbers kind frame output)
+  check-leaves : Checking image numbers said frame output e (checked image numbers said frame output)
   check-leaves =
       record {
         leaves =
-            subst (λ (n : ℕ). Leaves image numbers output e n (checked image numbers kind frame output))
-            (released.number image numbers kind frame output e below spis done-so)
+            subst (λ (n : ℕ). Leaves image numbers output e n (checked image numbers said frame output))
+            (released.number image numbers said frame output e below spis done-so)
             (rw whole-check
-            (leaves image numbers octets 2 kind (spiOn kind frame) frame e (length output) c used-check thirtyTwo output
+            (leaves image numbers octets 2 said (spiOn said frame) frame e (length output) c used-check thirtyTwo output
             (used-check .roomy)));
-        out = released.out image numbers kind frame output e below spis done-so;
+        out = released.out image numbers said frame output e below spis done-so;
         cut = λ j.
-            rw (whole-check, released.cut-image image numbers kind frame output e below spis done-so j)
-            (mark-alone image numbers octets 2 kind (spiOn kind frame) frame e (length output) c used-check j);
+            rw (whole-check, released.cut-image image numbers said frame output e below spis done-so j)
+            (mark-alone image numbers octets 2 said (spiOn said frame) frame e (length output) c used-check j);
       }
 
 -- ---- all of them

@@ -3,6 +3,7 @@ pub mod Cases
 pub mod Computing
 pub mod Effects
 pub mod Fields
+pub mod Forms
 pub mod Isolation
 pub mod Keeps
 pub mod Leaves

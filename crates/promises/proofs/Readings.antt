@@ -1,41 +1,71 @@
--- What the definitions ask of a frame, and read in a secured one under what an association holds, is what the promises read in its octets.
+-- What the definitions ask of a frame, and read in a clear one or, under what an association holds, in a secured one, is what the promises
+-- read in its octets: the kind's record described with its form.
 -- Assumes nothing.
-use Prim.Native.Nat.{ℕ, _+_}
+use Prim.Native.Nat.{ℕ, _+_, _-_}
 use mathlib.Core.Path.{_≡_, refl, ap, _∙_}
 use mathlib.Core.Bool.{Bool, true, false, cond}
 use mathlib.Core.List.{List, _++_}
+use native.Mathlib.Omega.{arith}
 use lib.Dec.{eqb}
-use lib.ListN.{take, drop}
+use lib.ListN.{length, take, drop, length-take}
 use lib.Seq.{slice}
 use Rattle.octets.specs.Numbers.{numberAt}
 use Rattle.octets.specs.Same.{same}
 use Rattle.cmac.specs.Mac.{cmac}
 use Rattle.gcm.specs.Decryption.{plaintext}
 use Rattle.gcm.specs.Encryption.{ciphertext, tag}
-use Rattle.frame.specs.Kinds.{kindOf}
 use Rattle.frame.specs.Masked.{masked}
-use Rattle.frame.specs.Parts.{headerOf, securityOf, securedData, macOf}
+use Rattle.frame.specs.Parts.{headerOf, clearContent, securityOf, securedContent, macOf}
 use Rattle.frame.specs.Rules.{least, obeys}
 use Rattle.frame.proofs.Room.{obeyed, obeying}
 use Rattle.association.specs.declared.held.Held.{Held}
-use Rattle.link.specs.Protection.{securityLength, coveredBefore, fieldIn, textIn, numberIn, macRight}
-use Rattle.link.specs.Services.{authentication, authenticatedEncryption, service}
-use Rattle.link.proofs.Wire.{number-read}
-use Rattle.promises.specs.Frames.{headerSize, fieldSize, securitySize, fieldOn, numberOn, textEnd, textOn, macOn}
-use Rattle.promises.specs.Frames.{goingOut, comingIn, rightMac, FrameRules}
+use Rattle.protection.specs.Protection.{securityLength, coveredBefore, spiIn, fieldIn, textIn, numberIn, macRight}
+use Rattle.protection.specs.Services.{authentication, authenticatedEncryption, service}
+use Rattle.link.specs.Said.{Said, kindSaid}
+use Rattle.protection.proofs.Wire.{number-read}
+use Rattle.promises.specs.Forms.{formSaid, underMask}
+use Rattle.promises.specs.Frames.{headerSize, trailerSize, dataInClear, fieldSize, securitySize, spiOn, fieldOn, numberOn}
+use Rattle.promises.specs.Frames.{textOn, macOn, goingOut, comingIn, rightMac, FrameRules}
+use Rattle.promises.proofs.Forms.{Describes, described, under-mask}
 
--- ---- the rules of a frame, answer 3
+-- ---- header and trailer, and the rules of a frame, answer 3
 
-module _ (kind : ℕ) (frame : List ℕ) (secured : Bool) where
-  pub frame-kept : obeys (kindOf kind) frame secured ≡ true → FrameRules kind frame (least secured)
-  frame-kept e =
-      let o = obeyed (kindOf kind) frame secured e in
-      record { header = o .rules; lengthField = o .lengthOk; largest = o .largest; smallest = o .room }
+module _ (said : Said) where
+  pub form : Describes (formSaid said) (kindSaid said)
+  form = described (said .kind)
 
-  pub frame-tested : FrameRules kind frame (least secured) → obeys (kindOf kind) frame secured ≡ true
-  frame-tested f =
-      obeying (kindOf kind) frame secured
-      (record { rules = f .header; lengthOk = f .lengthField; largest = f .largest; room = f .smallest })
+  pub header-size : (frame : List ℕ) → headerSize said frame ≡ kindSaid said .header frame
+  header-size = form .header
+
+  pub trailer-size : (frame : List ℕ) → trailerSize said frame ≡ kindSaid said .trailer frame
+  trailer-size = form .trailer
+
+  module _ (frame : List ℕ) (secured : Bool) where
+    pub frame-kept : obeys (kindSaid said) frame secured ≡ true → FrameRules said frame (least secured)
+    frame-kept e =
+        let o = obeyed (kindSaid said) frame secured e in
+        record {
+          header = form .kept frame (o .rules) (o .lengthOk);
+          largest = rw (form .largest) (o .largest);
+          smallest = rw (header-size frame, trailer-size frame) (o .room);
+        }
+
+    pub frame-tested : FrameRules said frame (least secured) → obeys (kindSaid said) frame secured ≡ true
+    frame-tested f =
+        let t = form .tested frame (f .header) in
+        obeying (kindSaid said) frame secured
+        (record {
+          rules = t .0;
+          lengthOk = t .1;
+          largest = rw (← form .largest) (f .largest);
+          room = rw (← header-size frame, ← trailer-size frame) (f .smallest);
+        })
+
+  -- ---- a clear frame
+
+  pub data-in-clear : (frame : List ℕ) → dataInClear said frame ≡ clearContent (kindSaid said) frame
+  unfolding clearContent
+  data-in-clear frame = rw (header-size frame, trailer-size frame)
 
 -- ---- a secured frame
 
@@ -47,39 +77,53 @@ field-size number = by-test (eqb number 2)
     by-test true = refl
     by-test false = refl
 
-module _ (h : Held) (kind : ℕ) (frame : List ℕ) where
+pub spi-on : (said : Said) (frame : List ℕ) → spiOn said frame ≡ spiIn (kindSaid said) frame
+spi-on said frame = rw (header-size said frame)
+
+module _ (h : Held) (said : Said) (frame : List ℕ) where
   pub security-size : securityLength h ≡ securitySize (h .service)
   security-size = ap (λ (n : ℕ). 2 + n) (field-size (h .service))
 
-  pub number-on : numberIn h (kindOf kind) frame ≡ numberOn (h .service) kind frame
+  pub number-on : numberIn h (kindSaid said) frame ≡ numberOn (h .service) said frame
   number-on =
-      number-read h (kindOf kind) frame ∙ ap (λ (n : ℕ). numberAt (headerSize kind frame + 2) n frame) (field-size (h .service))
+      number-read h (kindSaid said) frame
+      ∙ rw (header-size said frame) (ap (λ (n : ℕ). numberAt (kindSaid said .header frame + 2) n frame) (field-size (h .service)))
 
-  pub text-on : textIn h (kindOf kind) frame ≡ textOn (h .service) kind frame
-  unfolding textIn securedData
-  text-on = ap (λ (n : ℕ). slice (headerSize kind frame + n) (textEnd kind frame) frame) security-size
+  pub text-on : textIn h (kindSaid said) frame ≡ textOn (h .service) said frame
+  unfolding textIn securedContent
+  text-on =
+      rw (header-size said frame, trailer-size said frame)
+      (ap (λ (n : ℕ). slice (kindSaid said .header frame + n) (length frame - kindSaid said .trailer frame - 16) frame) security-size)
+
+  pub field-on : fieldIn h (kindSaid said) frame ≡ fieldOn (h .service) said frame
+  unfolding fieldIn securityOf
+  field-on =
+      let a : ℕ = kindSaid said .header frame in
+      rw (header-size said frame) (ap (λ (n : ℕ). drop 2 (slice a (a + n) frame)) security-size)
 
   -- under either service
-  made : (t : Bool) (mask key : List ℕ) (a b : ℕ)
+  made : (t : Bool) (mask key : List ℕ) (a b : ℕ) → masked mask (take a frame) ≡ underMask mask (take a frame)
       → let s = cond t authenticatedEncryption authentication in
       let old = slice a (a + (2 + s .field)) frame in
       let new = slice a (a + (2 + cond t 12 4)) frame in
-      let before = masked mask (take a frame) ++ new in
+      let before = underMask mask (take a frame) ++ new in
       let text = slice (a + (2 + cond t 12 4)) b frame in
       s .mac key (drop 2 old) (masked mask (take a frame) ++ old) (slice (a + (2 + s .field)) b frame)
       ≡ cond t (tag key (drop 2 new) before text) (cmac key (before ++ text))
-  made true mask key a b = refl
-  made false mask key a b = refl
+  made true mask key a b under = rw under
+  made false mask key a b under = rw under
 
-  pub mac-right : macRight h (kindOf kind) frame ≡ same (rightMac (h .service) kind (h .mask) (h .key) frame) (macOn kind frame)
-  unfolding macRight coveredBefore fieldIn textIn headerOf securityOf securedData macOf service
-  mac-right =
-      ap (λ (m : List ℕ). same m (macOn kind frame))
-      (made (eqb (h .service) 2) (h .mask) (h .key) (headerSize kind frame) (textEnd kind frame))
-
-  pub field-on : fieldIn h (kindOf kind) frame ≡ fieldOn (h .service) kind frame
-  unfolding fieldIn securityOf
-  field-on = ap (λ (n : ℕ). drop 2 (slice (headerSize kind frame) (headerSize kind frame + n) frame)) security-size
+  -- the mask of an entry has six octets, and so reaches over every header
+  pub mac-right : length (h .mask) ≡ 6
+      → macRight h (kindSaid said) frame ≡ same (rightMac (h .service) said (h .mask) (h .key) frame) (macOn said frame)
+  unfolding macRight coveredBefore fieldIn textIn headerOf securityOf securedContent macOf service
+  mac-right six =
+      let k = kindSaid said in
+      let end : ℕ = length frame - k .trailer frame in
+      rw (header-size said frame, trailer-size said frame)
+      (ap (λ (m : List ℕ). same m (slice (end - 16) end frame))
+      (made (eqb (h .service) 2) (h .mask) (h .key) (k .header frame) (end - 16)
+      (under-mask (h .mask) (take (k .header frame) frame) (omega (arith, length-take (k .header frame) frame, form said .short frame)))))
 
 -- the data, both ways
 pub going-out : (number : ℕ) (key field clear : List ℕ) → service number .goingOut key field clear ≡ goingOut number key field clear

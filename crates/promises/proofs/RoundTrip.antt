@@ -9,27 +9,27 @@ use native.Mathlib.Omega.{arith}
 use borrow.Author.Tests.{lt-ltb, le-leb}
 use lib.ListN.{length}
 use Rattle.octets.specs.Lists.{Octets}
-use Rattle.frame.specs.Kinds.{Kind, kindOf}
-use Rattle.frame.specs.Parts as parts
+use Rattle.kinds.specs.Kinds.{Kind}
 use Rattle.frame.specs.Rules.{obeys}
-use Rattle.frame.proofs.Kept.{Kept}
+use Rattle.kinds.proofs.Kept.{Kept, lawful}
 use Rattle.association.specs.Association.{Association, associationOf, held, heldIn}
 use Rattle.association.specs.Numbers.{greatest, accepts}
 use Rattle.association.specs.declared.held.Held.{Held}
 use Rattle.association.specs.declared.search.Wanted.{Wanted}
 use Rattle.association.proofs.Finding.{found-matching}
-use Rattle.association.proofs.ValidImages.{valid}
-use Rattle.link.specs.Calls.{handed, done, secured, checkingWants, checkingEntry, comparison, checkingReply, checkedAs, checked}
-use Rattle.link.specs.Protection.{securedLength, securedFrame, numberIn, clearData, clearLength}
+use Rattle.image.proofs.ValidImages.{valid}
+use Rattle.link.specs.Calls.{handed, done, secured, checkingWants, comparison, checkingReply, checkedAs, checked}
+use Rattle.protection.specs.Protection.{securedLength, securedFrame, numberIn, clearData, clearLength}
 use Rattle.link.specs.Replies.{seen, Reply, checking}
-use Rattle.link.specs.Services.{service}
+use Rattle.link.specs.Said.{Said, kindSaid}
 use Rattle.link.proofs.Answered.{Checks, checks-zero, checking-size, left-done, handed-result}
 use Rattle.link.proofs.Searches.{Finds, finds-at}
-use Rattle.link.proofs.Wire as wire
+use Rattle.protection.proofs.Wire as wire
 use Rattle.promises.specs.Frames as words
 use Rattle.promises.specs.Images.{countIn, spiAt, serviceAt, windowAt, lastAt, ImageRules, Agreeing, InWindow, Serves}
 use Rattle.promises.specs.RoundTrip.{OtherEnd, Released, RoundTrip}
 use Rattle.promises.proofs.Fields.{service-at, window-at, mask-at, key-at}
+use Rattle.promises.proofs.Readings.{form, data-in-clear, spi-on}
 use Rattle.promises.proofs.Sent as sent
 use Rattle.promises.proofs.Valids.{rules-valid, agreement-tested, served}
 
@@ -56,16 +56,16 @@ module _ (here sendNumbers there numbers : List ℕ) (e i : ℕ) (other : OtherE
 
 -- ---- the check of a frame that the receiver's association would have made
 
-module _ (there numbers : List ℕ) (octets : Octets there) (kind spi n : ℕ) (frame output : List ℕ) (i : ℕ)
-    (clear : obeys (kindOf kind) frame false ≡ true)
-    (fits : securedLength (heldIn (associationOf there numbers i)) frame ≤ kindOf kind .largest)
+module _ (there numbers : List ℕ) (octets : Octets there) (said : Said) (spi n : ℕ) (frame output : List ℕ) (i : ℕ)
+    (clear : obeys (kindSaid said) frame false ≡ true)
+    (fits : securedLength (heldIn (associationOf there numbers i)) frame ≤ kindSaid said .largest)
     (rules : ImageRules there)
     (agree : Agreeing there numbers)
-    (serves : Serves there 2 kind spi frame i)
+    (serves : Serves there 2 said spi frame i)
     (window : InWindow (lastAt numbers i) (windowAt there i) n)
-    (room : length (words.clearData kind frame) ≤ length output) where
+    (room : length (words.dataInClear said frame) ≤ length output) where
   abbrev k : Kind
-  k = kindOf kind
+  k = kindSaid said
 
   abbrev r : Held
   r = heldIn (associationOf there numbers i)
@@ -74,92 +74,98 @@ module _ (there numbers : List ℕ) (octets : Octets there) (kind spi n : ℕ) (
   S = securedFrame r k spi n frame
 
   abbrev w : Wanted
-  w = checkingWants kind S
+  w = checkingWants said S
 
   abbrev reply : Reply
-  reply = checkingReply true there numbers kind S output
+  reply = checkingReply true there numbers said S (length output)
 
   kept : Kept k frame S
-  kept = wire.kept r kind spi n frame clear fits
+  kept = wire.kept r (kindSaid said) (lawful (said .kind)) spi n frame clear fits
 
   small-spi : spi < 2 ^ 16
   small-spi = omega (arith, rules .spi i (serves .entry) .1, serves .spis)
 
-  serves-secured : Serves there 2 kind (words.spiOn kind S) S i
+  serves-secured : Serves there 2 said (words.spiOn said S) S i
   serves-secured =
       record {
         entry = serves .entry;
-        spis = serves .spis ∙ sym (wire.spi-secured r kind spi n frame clear fits small-spi);
+        spis = serves .spis ∙ sym (spi-on said S ∙ wire.spi-secured r (kindSaid said) (lawful (said .kind)) spi n frame clear fits small-spi);
         state = serves .state;
         directions = serves .directions;
         kinds = serves .kinds;
-        spacecraft = serves .spacecraft ∙ sym (kept .spacecraft);
-        channel = serves .channel ∙ sym (kept .channel);
-        map = λ e. serves .map e ∙ sym (kept .map);
+        spacecraft = serves .spacecraft ∙ form said .spacecraft frame ∙ sym (form said .spacecraft S ∙ kept .spacecraft);
+        channel = serves .channel ∙ form said .channel frame ∙ sym (form said .channel S ∙ kept .channel);
+        map = λ e. serves .map e ∙ form said .map frame ∙ sym (form said .map S ∙ kept .map);
       }
 
   finding : Finds there numbers w i
   finding =
       finds-at there numbers w i
       (found-matching there (valid there (rules-valid there octets rules)) w i (serves .entry)
-      (served there 2 kind (words.spiOn kind S) S i serves-secured))
+      (rw (spi-on said S) at (served there 2 said (words.spiOn said S) S i serves-secured)))
 
   -- ---- every test passes
 
-  compared : comparison there numbers kind S ≡ true
+  compared : comparison there numbers said S ≡ true
   unfolding comparison seen
-  compared = rw (finding .association) (wire.right-secured r kind spi n frame clear fits)
+  compared = rw (finding .association) (wire.right-secured r (kindSaid said) (lawful (said .kind)) spi n frame clear fits)
 
   inside : accepts (associationOf there numbers i .number) (r .window) (numberIn r k S) ≡ true
   unfolding associationOf held
   inside =
       let e = window-at there i in
-      let m = wire.number-secured r kind spi n frame clear fits (omega (arith, window .most)) in
+      let m = wire.number-secured r (kindSaid said) (lawful (said .kind)) spi n frame clear fits (omega (arith, window .most)) in
       rw m
       (ap₂ _&&_
       (ap₂ _&&_ (lt-ltb (lastAt numbers i) n (window .above)) (le-leb n (lastAt numbers i + r .window) (omega (arith, window .near))))
       (le-leb n greatest (window .most)))
 
-  data-long : clearLength r k S ≡ length (words.clearData kind frame)
-  unfolding parts.clearData
-  data-long = wire.length-data r kind spi n frame clear fits
+  data-long : clearLength r k S ≡ length (words.dataInClear said frame)
+  data-long = wire.length-data r (kindSaid said) (lawful (said .kind)) spi n frame clear fits ∙ ap length (sym (data-in-clear said frame))
 
-  tests : Checks (seen there numbers w) true kind S (length output)
+  tests : Checks (seen there numbers w) true said S (length output)
   unfolding seen
   tests =
       record {
-        valid = rules-valid there octets rules;
-        agree = agreement-tested there numbers octets agree;
-        secured = wire.obeys-secured r kind spi n frame clear fits;
-        found = finding .some;
-        long = rw (finding .association) (wire.not-short r kind spi n frame clear fits);
-        roomy = rw (finding .association, data-long) room;
-        mac = refl;
-        window = rw (finding .association) inside;
+        front =
+            record {
+              valid = rules-valid there octets rules;
+              agree = agreement-tested there numbers octets agree;
+              rules = wire.obeys-secured r (kindSaid said) (lawful (said .kind)) spi n frame clear fits;
+              found = finding .some;
+            };
+        under =
+            record {
+              long = rw (finding .association) (wire.not-short r (kindSaid said) (lawful (said .kind)) spi n frame clear fits);
+              roomy = rw (finding .association, data-long) room;
+              mac = refl;
+              window = rw (finding .association) inside;
+            };
       }
 
   zero : reply .answer ≡ 0
   unfolding checkingReply
-  zero = checks-zero (seen there numbers w) true kind S (length output) tests
+  zero = checks-zero (seen there numbers w) true said S (length output) tests
 
   -- ---- and the data is released
 
-  is-done : checked there numbers kind S output ≡ done reply (checkingEntry there kind S) there numbers output
+  is-done : checked there numbers said S output ≡ done reply there numbers output
   unfolding checked checkedAs
-  is-done = rw compared (left-done reply (checkingEntry there kind S) there numbers output zero)
+  is-done = rw compared (left-done reply there numbers output zero)
 
-  released : Released (words.clearData kind frame) (checked there numbers kind S output)
-  unfolding checkingReply checking seen parts.clearData
+  released : Released (words.dataInClear said frame) (checked there numbers said S output)
+  unfolding checkingReply checking seen
   released =
       rw is-done
       (record {
         answer = refl;
         size = rw (finding .association) data-long;
         result =
-            handed-result reply (checkingEntry there kind S) there numbers output
-            (checking-size (seen there numbers w) true kind S (length output))
+            handed-result reply there numbers output
+            (checking-size (seen there numbers w) true said S (length output))
             ∙ ap (λ (x : Association). clearData (heldIn x) k S) (finding .association)
-            ∙ wire.data-secured r kind spi n frame clear fits;
+            ∙ wire.data-secured r (kindSaid said) (lawful (said .kind)) spi n frame clear fits
+            ∙ sym (data-in-clear said frame);
       })
 
 -- ---- the frame that went out is that frame
@@ -167,35 +173,35 @@ module _ (there numbers : List ℕ) (octets : Octets there) (kind spi n : ℕ) (
 pub round-trip : RoundTrip
 round-trip = record { released = both-ends }
   where
-    both-ends : (here sendNumbers : List ℕ) (kind spi : ℕ) (frame sendOutput there numbers output : List ℕ) (e i : ℕ)
+    both-ends : (here sendNumbers : List ℕ) (said : Said) (spi : ℕ) (frame sendOutput there numbers output : List ℕ) (e i : ℕ)
         → Octets there
-        → let x = secured here sendNumbers kind spi frame sendOutput in
+        → let x = secured here sendNumbers said spi frame sendOutput in
         x .answer ≡ 0
         → e < countIn here
         → spiAt here e ≡ spi
         → OtherEnd here e there numbers i
-        → InWindow (lastAt numbers i) (windowAt there i) (words.numberOn (serviceAt here e) kind (handed x))
-        → length (words.clearData kind frame) ≤ length output
-        → Released (words.clearData kind frame) (checked there numbers kind (handed x) output)
-    both-ends here sendNumbers kind spi frame sendOutput there numbers output e i octets done-so below spis other window room =
-        let used = sent.used here sendNumbers kind spi frame sendOutput e below spis done-so in
+        → InWindow (lastAt numbers i) (windowAt there i) (words.numberOn (serviceAt here e) said (handed x))
+        → length (words.dataInClear said frame) ≤ length output
+        → Released (words.dataInClear said frame) (checked there numbers said (handed x) output)
+    both-ends here sendNumbers said spi frame sendOutput there numbers output e i octets done-so below spis other window room =
+        let used = sent.used here sendNumbers said spi frame sendOutput e below spis done-so in
         let s = used .serves in
         let n = lastAt sendNumbers e + 1 in
         let h = heldIn (associationOf here sendNumbers e) in
         let g = heldIn (associationOf there numbers i) in
         let services = same-service here sendNumbers there numbers e i other in
-        let fits : securedLength g frame ≤ kindOf kind .largest =
-        rw services (sent.fits here sendNumbers kind spi frame sendOutput e below spis done-so)
+        let fits : securedLength g frame ≤ kindSaid said .largest =
+        rw services (sent.fits here sendNumbers said spi frame sendOutput e below spis done-so)
         in
         let near : InWindow (lastAt numbers i) (windowAt there i) n =
-        rw (sent.made here sendNumbers kind spi frame sendOutput e below spis done-so .number) at window
+        rw (sent.made here sendNumbers said spi frame sendOutput e below spis done-so .number) at window
         in
-        let out : handed (secured here sendNumbers kind spi frame sendOutput) ≡ securedFrame g (kindOf kind) spi n frame =
-        sent.out here sendNumbers kind spi frame sendOutput e below spis done-so
-        ∙ wire.alike-frame h g (kindOf kind) spi n frame services (same-mask here sendNumbers there numbers e i other)
+        let out : handed (secured here sendNumbers said spi frame sendOutput) ≡ securedFrame g (kindSaid said) spi n frame =
+        sent.out here sendNumbers said spi frame sendOutput e below spis done-so
+        ∙ wire.alike-frame h g (kindSaid said) spi n frame services (same-mask here sendNumbers there numbers e i other)
         (same-key here sendNumbers there numbers e i other)
         in
-        let serves : Serves there 2 kind spi frame i =
+        let serves : Serves there 2 said spi frame i =
         record {
           entry = other .entry;
           spis = other .spi ∙ spis;
@@ -208,5 +214,5 @@ round-trip = record { released = both-ends }
         }
         in
         rw out
-        (released there numbers octets kind spi n frame output i
-        (sent.clear here sendNumbers kind spi frame sendOutput e below spis done-so) fits (other .valid) (other .agree) serves near room)
+        (released there numbers octets said spi n frame output i
+        (sent.clear here sendNumbers said spi frame sendOutput e below spis done-so) fits (other .valid) (other .agree) serves near room)

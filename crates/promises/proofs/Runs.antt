@@ -6,10 +6,10 @@ use mathlib.Core.Path.{_≡_, refl, sym, ap, _∙_}
 use mathlib.Core.Bool.{true}
 use mathlib.Core.List.{List, [], _∷_, _++_}
 use native.Mathlib.Omega.{arith}
-use Rattle.association.specs.Image.{validImage}
+use Rattle.image.specs.Image.{validImage}
 use Rattle.link.specs.Calls.{loaded}
 use Rattle.promises.specs.Images.{countIn, directionAt, lastAt}
-use Rattle.promises.specs.Runs.{Step, State, kept, after, ran, Shown, loading, sent, released, shows, trace}
+use Rattle.promises.specs.Runs.{Step, State, kept, after, ran, Shown, restart, sent, released, shows, trace}
 use Rattle.promises.specs.Runs.{SentAfter, SentRise, ReleasedAfter, ReleasedRise, sentIn, releasedIn, Without, Once, Runs}
 use Rattle.promises.proofs.Effects.{Effect, quiet, loads, sends, frees, effect}
 use Rattle.promises.proofs.Keeps.{Inv, Keeps, loaded-image, load-inv, keeps}
@@ -131,42 +131,42 @@ Above p ns = (q : ℕ) → q ≤ p → Without q ns
 sent-above : (r : List Shown) (p l : ℕ) → SentAfter p l r → Above p (sentIn r)
 unfolding SentAfter sentIn Without
 sent-above [] p l a q h = tt
-sent-above (loading ∷ r) p l a q h = sent-above r p (l + 1) a q h
+sent-above (restart ∷ r) p l a q h = sent-above r p (l + 1) a q h
 sent-above (sent n ∷ r) p l a q h = (λ e. omega (arith, a .0), sent-above r n 0 (a .2) q (omega (arith, a .0)))
 sent-above (released n ∷ r) p l a q h = sent-above r p l a q h
 
 sent-once-after : (r : List Shown) (p l : ℕ) → SentAfter p l r → Once (sentIn r)
 unfolding SentAfter sentIn Once
 sent-once-after [] p l a = tt
-sent-once-after (loading ∷ r) p l a = sent-once-after r p (l + 1) a
+sent-once-after (restart ∷ r) p l a = sent-once-after r p (l + 1) a
 sent-once-after (sent n ∷ r) p l a = (sent-above r n 0 (a .2) n (omega arith), sent-once-after r n 0 (a .2))
 sent-once-after (released n ∷ r) p l a = sent-once-after r p l a
 
 sent-once : (r : List Shown) → SentRise r → Once (sentIn r)
 unfolding SentRise sentIn Once
 sent-once [] a = tt
-sent-once (loading ∷ r) a = sent-once r a
+sent-once (restart ∷ r) a = sent-once r a
 sent-once (sent n ∷ r) a = (sent-above r n 0 a n (omega arith), sent-once-after r n 0 a)
 sent-once (released n ∷ r) a = sent-once r a
 
 released-above : (r : List Shown) (p : ℕ) → ReleasedAfter p r → Above p (releasedIn r)
 unfolding ReleasedAfter releasedIn Without
 released-above [] p a q h = tt
-released-above (loading ∷ r) p a q h = released-above r p a q h
+released-above (restart ∷ r) p a q h = released-above r p a q h
 released-above (sent n ∷ r) p a q h = released-above r p a q h
 released-above (released n ∷ r) p a q h = (λ e. omega (arith, a .0), released-above r n (a .1) q (omega (arith, a .0)))
 
 released-once-after : (r : List Shown) (p : ℕ) → ReleasedAfter p r → Once (releasedIn r)
 unfolding ReleasedAfter releasedIn Once
 released-once-after [] p a = tt
-released-once-after (loading ∷ r) p a = released-once-after r p a
+released-once-after (restart ∷ r) p a = released-once-after r p a
 released-once-after (sent n ∷ r) p a = released-once-after r p a
 released-once-after (released n ∷ r) p a = (released-above r n (a .1) n (omega arith), released-once-after r n (a .1))
 
 released-once : (r : List Shown) → ReleasedRise r → Once (releasedIn r)
 unfolding ReleasedRise releasedIn Once
 released-once [] a = tt
-released-once (loading ∷ r) a = released-once r a
+released-once (restart ∷ r) a = released-once r a
 released-once (sent n ∷ r) a = released-once r a
 released-once (released n ∷ r) a = (released-above r n a n (omega arith), released-once-after r n a)
 

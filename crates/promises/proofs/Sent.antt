@@ -1,94 +1,99 @@
 -- A sending that answers 0 under an SPI served the entry with that SPI, and handed out the secured frame of the entry's next number.
 -- Assumes nothing.
 use Prim.Native.Nat.{ℕ, _+_, _^_, _≤_, _<_}
-use mathlib.Core.Path.{_≡_, sym, ap, _∙_, subst}
+use mathlib.Core.Path.{_≡_, sym, ap, ap₂, _∙_, subst}
 use mathlib.Core.Bool.{true, false}
 use mathlib.Core.List.{List}
 use native.Mathlib.Omega.{arith}
-use lib.ListN.{length}
+use lib.ListN.{length, take}
+use lib.Seq.{getD-take}
+use Rattle.octets.specs.Lists.{octet}
+use Rattle.octets.proofs.Parts.{length-part}
 use Rattle.octets.proofs.Sameness.{same-eq}
-use Rattle.frame.specs.Kinds.{kindOf}
-use Rattle.frame.specs.Parts as parts
 use Rattle.frame.specs.Parts.{headerOf, trailerOf}
 use Rattle.frame.specs.Rules.{obeys}
+use Rattle.kinds.proofs.Kept.{lawful}
+use Rattle.frame.proofs.Room.{obeyed}
 use Rattle.association.specs.Association.{Association, associationOf, held, heldIn, theOne, matching}
-use Rattle.association.specs.Image.{countOf, spiOf}
+use Rattle.image.specs.Image.{countOf, spiOf}
 use Rattle.association.specs.Stores.{afterStores}
-use Rattle.association.proofs.ValidImages.{valid}
+use Rattle.marks.specs.declared.plans.Store.{Store}
+use Rattle.marks.specs.Stores.{stored}
+use Rattle.image.proofs.ValidImages.{valid}
 use Rattle.association.specs.declared.held.Held.{Held}
 use Rattle.link.specs.Calls.{handed, done, securingWants, securingEntry, securingReply, secured, securedCut}
-use Rattle.link.specs.Protection.{serviceIn, securedLength, securedFrame}
+use Rattle.protection.specs.Protection.{serviceIn, securedLength, securedFrame}
 use Rattle.link.specs.Replies.{seen, Reply, securing}
+use Rattle.link.specs.Said.{Said, kindSaid}
 use Rattle.link.proofs.Answered.{Secures, secures, left-answer, left-done, handed-result, cut-done}
 use Rattle.link.proofs.Searches.{finds}
-use Rattle.link.proofs.Wire as wire
+use Rattle.protection.proofs.Wire as wire
+use Rattle.promises.specs.Forms.{formSaid}
 use Rattle.promises.specs.Frames as words
 use Rattle.promises.specs.Frames.{SecuredFrom}
-use Rattle.promises.specs.Images.{serviceAt, maskAt, keyAt, lastAt}
+use Rattle.promises.specs.Images.{place, serviceAt, maskAt, keyAt, lastAt}
 use Rattle.promises.proofs.Fields.{service-at, mask-at, key-at}
-use Rattle.promises.proofs.Readings.{frame-kept, security-size, number-on, text-on, field-on, mac-right, going-out}
+use Rattle.promises.proofs.Readings.{form, header-size, trailer-size, frame-kept, data-in-clear}
+use Rattle.promises.proofs.Readings.{security-size, spi-on, number-on, text-on, field-on, mac-right, going-out}
 use Rattle.promises.proofs.Used.{Used, only-entry, send-number, send-used}
 
-module _ (image numbers : List ℕ) (kind spi : ℕ) (frame output : List ℕ) (e : ℕ) (below : e < countOf image) (spis : spiOf image e ≡ spi)
-    (done-so : secured image numbers kind spi frame output .answer ≡ 0) where
+module _ (image numbers : List ℕ) (said : Said) (spi : ℕ) (frame output : List ℕ) (e : ℕ) (below : e < countOf image) (spis : spiOf image e ≡ spi)
+    (done-so : secured image numbers said spi frame output .answer ≡ 0) where
   abbrev pub reply : Reply
-  reply = securingReply image numbers kind spi frame output
+  reply = securingReply image numbers said spi frame (length output)
 
   abbrev h : Held
   h = heldIn (associationOf image numbers e)
 
   pub reply-done : reply .answer ≡ 0
   unfolding secured
-  reply-done = sym (left-answer reply (securingEntry image kind spi frame) image numbers output) ∙ done-so
+  reply-done = sym (left-answer reply image numbers output) ∙ done-so
 
-  pub entry : securingEntry image kind spi frame ≡ e
+  pub entry : securingEntry image said spi frame ≡ e
   entry =
-      only-entry image numbers 1 kind spi frame (securingEntry image kind spi frame) (length output) reply
-      (send-used image numbers kind spi frame output reply-done) e below spis
+      only-entry image numbers 1 said spi frame (securingEntry image said spi frame) (length output) reply
+      (send-used image numbers said spi frame output reply-done) e below spis
 
-  pub used : Used image numbers 1 kind spi frame e (length output) reply
+  pub used : Used image numbers 1 said spi frame e (length output) reply
   used =
-      subst (λ (d : ℕ). Used image numbers 1 kind spi frame d (length output) reply) entry
-      (send-used image numbers kind spi frame output reply-done)
+      subst (λ (d : ℕ). Used image numbers 1 said spi frame d (length output) reply) entry
+      (send-used image numbers said spi frame output reply-done)
 
   pub number : reply .number ≡ lastAt numbers e + 1
-  number = send-number image numbers kind spi frame output reply-done ∙ ap (λ (d : ℕ). lastAt numbers d + 1) entry
+  number = send-number image numbers said spi frame output reply-done ∙ ap (λ (d : ℕ). lastAt numbers d + 1) entry
 
-  pub whole : secured image numbers kind spi frame output ≡ done reply e image numbers output
+  pub whole : secured image numbers said spi frame output ≡ done reply image numbers output
   unfolding secured
-  whole =
-      left-done reply (securingEntry image kind spi frame) image numbers output reply-done
-      ∙ ap (λ (d : ℕ). done reply d image numbers output) entry
+  whole = left-done reply image numbers output reply-done
 
-  pub cut-image : (j : ℕ) → securedCut image numbers kind spi frame output j ≡ afterStores image e (reply .number) j
-  unfolding securedCut
-  cut-image j =
-      cut-done reply (securingEntry image kind spi frame) image j reply-done ∙ ap (λ (d : ℕ). afterStores image d (reply .number) j) entry
+  pub cut-image : (j : ℕ) → securedCut image numbers said spi frame output j ≡ afterStores image e (reply .number) j
+  unfolding securedCut afterStores
+  cut-image j = cut-done reply image j reply-done ∙ ap (λ (s : List Store). stored image (take j s)) (used .plan)
 
   -- ---- the frame
 
-  kept-tests : Secures (seen image numbers (securingWants kind spi frame)) kind frame (length output)
+  kept-tests : Secures (seen image numbers (securingWants said spi frame)) said frame (length output)
   unfolding securingReply
-  kept-tests = secures (seen image numbers (securingWants kind spi frame)) kind spi frame (length output) reply-done
+  kept-tests = secures (seen image numbers (securingWants said spi frame)) said spi frame (length output) reply-done
 
-  association : theOne (matching image numbers (securingWants kind spi frame)) ≡ associationOf image numbers e
+  association : theOne (matching image numbers (securingWants said spi frame)) ≡ associationOf image numbers e
   unfolding seen
   association =
-      finds image numbers (securingWants kind spi frame) (kept-tests .found) .association ∙ ap (associationOf image numbers) entry
+      finds image numbers (securingWants said spi frame) (kept-tests .front .found) .association ∙ ap (associationOf image numbers) entry
 
-  pub clear : obeys (kindOf kind) frame false ≡ true
-  clear = kept-tests .clear
+  pub clear : obeys (kindSaid said) frame false ≡ true
+  clear = kept-tests .front .rules
 
-  pub fits : securedLength h frame ≤ kindOf kind .largest
+  pub fits : securedLength h frame ≤ kindSaid said .largest
   unfolding seen
-  fits = rw association at (kept-tests .fits)
+  fits = rw association at (kept-tests .under .fits)
 
-  pub out : handed (secured image numbers kind spi frame output) ≡ securedFrame h (kindOf kind) spi (lastAt numbers e + 1) frame
+  pub out : handed (secured image numbers said spi frame output) ≡ securedFrame h (kindSaid said) spi (lastAt numbers e + 1) frame
   unfolding securingReply securing seen associationOf
   out =
       ap handed whole
-      ∙ handed-result reply e image numbers output (used .sized)
-      ∙ ap (λ (x : Association). securedFrame (heldIn x) (kindOf kind) spi (x .number + 1) frame) association
+      ∙ handed-result reply image numbers output (used .sized)
+      ∙ ap (λ (x : Association). securedFrame (heldIn x) (kindSaid said) spi (x .number + 1) frame) association
 
   small : lastAt numbers e + 1 < 2 ^ 32
   small = omega (arith, used .fits, number)
@@ -98,30 +103,45 @@ module _ (image numbers : List ℕ) (kind spi : ℕ) (frame output : List ℕ) (
 
   -- what it holds
   abbrev S : List ℕ
-  S = securedFrame h (kindOf kind) spi (lastAt numbers e + 1) frame
+  S = securedFrame h (kindSaid said) spi (lastAt numbers e + 1) frame
 
-  secured-from : SecuredFrom (h .service) kind spi (lastAt numbers e + 1) (h .mask) (h .key) frame S
-  unfolding headerOf trailerOf parts.clearData
-  secured-from =
+  -- an octet of its header is read in the header that securing made
+  header-octet : (j : ℕ) → j < kindSaid said .header frame → octet S j ≡ formSaid said .securedOctet (length S) frame j
+  unfolding headerOf
+  header-octet j below-header =
+      let k = kindSaid said in
       let n = lastAt numbers e + 1 in
-      let long = wire.length-secured h kind spi n frame clear fits in
+      let long = wire.length-secured h (kindSaid said) (lawful (said .kind)) spi n frame clear fits in
+      let same = wire.kept h (kindSaid said) (lawful (said .kind)) spi n frame clear fits .header in
+      let room = obeyed k frame false clear .room in
+      sym (getD-take (k .header S) S j 0 (omega arith))
+      ∙ ap (λ (s : List ℕ). octet s j) (wire.header-read h (kindSaid said) (lawful (said .kind)) spi n frame clear fits)
+      ∙ rw long (form said .copied (securedLength h frame) frame j fits (omega arith) below-header)
+
+  secured-from : length (h .mask) ≡ 6 → SecuredFrom (h .service) said spi (lastAt numbers e + 1) (h .mask) (h .key) frame S
+  unfolding trailerOf
+  secured-from six =
+      let n = lastAt numbers e + 1 in
+      let long = wire.length-secured h (kindSaid said) (lawful (said .kind)) spi n frame clear fits in
       record {
-        size = omega (arith, long, security-size h kind S);
-        rules = frame-kept kind S true (wire.obeys-secured h kind spi n frame clear fits);
-        header = rw long (wire.header-read h kind spi n frame clear fits);
-        spis = wire.spi-secured h kind spi n frame clear fits small-spi;
-        number = sym (number-on h kind S) ∙ wire.number-secured h kind spi n frame clear fits small;
+        size = omega (arith, long, security-size h said S);
+        rules = frame-kept said S true (wire.obeys-secured h (kindSaid said) (lawful (said .kind)) spi n frame clear fits);
+        header = λ j below-header. header-octet j (omega (arith, header-size said frame));
+        spis = spi-on said S ∙ wire.spi-secured h (kindSaid said) (lawful (said .kind)) spi n frame clear fits small-spi;
+        number = sym (number-on h said S) ∙ wire.number-secured h (kindSaid said) (lawful (said .kind)) spi n frame clear fits small;
         text =
-            sym (text-on h kind S)
-            ∙ wire.text-read h kind spi n frame clear fits
-            ∙ ap (λ (f : List ℕ). serviceIn h .goingOut (h .key) f (words.clearData kind frame))
-            (sym (wire.field-read h kind spi n frame clear fits) ∙ field-on h kind S)
-            ∙ going-out (h .service) (h .key) (words.fieldOn (h .service) kind S) (words.clearData kind frame);
-        mac = sym (same-eq _ _ (sym (mac-right h kind S) ∙ wire.right-secured h kind spi n frame clear fits));
-        trailer = wire.trailer-read h kind spi n frame clear fits;
+            sym (text-on h said S)
+            ∙ wire.text-read h (kindSaid said) (lawful (said .kind)) spi n frame clear fits
+            ∙ ap₂ (serviceIn h .goingOut (h .key)) (sym (wire.field-read h (kindSaid said) (lawful (said .kind)) spi n frame clear fits) ∙ field-on h said S)
+            (sym (data-in-clear said frame))
+            ∙ going-out (h .service) (h .key) (words.fieldOn (h .service) said S) (words.dataInClear said frame);
+        mac = sym (same-eq _ _ (sym (mac-right h said S six) ∙ wire.right-secured h (kindSaid said) (lawful (said .kind)) spi n frame clear fits));
+        trailer = rw (trailer-size said S, trailer-size said frame) (wire.trailer-read h (kindSaid said) (lawful (said .kind)) spi n frame clear fits);
       }
 
-  pub made : SecuredFrom (serviceAt image e) kind spi (lastAt numbers e + 1) (maskAt image e) (keyAt image e) frame
-      (handed (secured image numbers kind spi frame output))
+  pub made : SecuredFrom (serviceAt image e) said spi (lastAt numbers e + 1) (maskAt image e) (keyAt image e) frame
+      (handed (secured image numbers said spi frame output))
   unfolding associationOf held
-  made = rw (out, ← service-at image e, ← mask-at image e, ← key-at image e) secured-from
+  made =
+      rw (out, ← service-at image e, ← mask-at image e, ← key-at image e)
+      (secured-from (ap length (mask-at image e) ∙ length-part (place image e 10) 6 image))

@@ -2,36 +2,39 @@
 -- nothing else of the image differs; once all are made, the numbers agree again.
 -- Assumes nothing.
 use Prim.Native.Nat.{ℕ, _+_, _-_, _/_, _≤_, _<_, min}
-use mathlib.Core.Path.{_≡_, refl, sym, ap, _∙_}
+use mathlib.Core.Path.{_≡_, sym, ap, _∙_}
 use mathlib.Core.Logic.{_⊎_, inl, inr}
 use mathlib.Core.Bool.{true}
 use mathlib.Core.List.{List}
 use native.Mathlib.Omega.{arith}
-use lib.ListN.{length, set}
-use lib.Seq.{length-front, length-take-le, drop-at}
+use lib.ListN.{length, set, take}
+use lib.Seq.{length-front, length-take-le, drop-at, take-all}
 use Rattle.octets.specs.Lists.{Octets}
-use Rattle.association.specs.Gray.{gray}
-use Rattle.association.specs.Numbers.{markIn, agrees}
-use Rattle.association.specs.Stores.{markAt, afterStores}
+use Rattle.marks.specs.Gray.{gray}
+use Rattle.image.specs.Image.{markIn, markAt}
+use Rattle.association.specs.Numbers.{agrees}
+use Rattle.marks.specs.Stores.{stored}
+use Rattle.association.specs.Stores.{afterStores}
 use Rattle.association.proofs.AfterStores.{Raised, raised}
 use Rattle.association.proofs.Agreement.{still-agrees}
 use Rattle.association.proofs.LoadedNumbers.{agreed}
-use Rattle.association.proofs.Places.{Outside}
+use Rattle.octets.proofs.Outside.{Outside}
 use Rattle.link.specs.Calls.{done}
 use Rattle.link.specs.Replies.{Reply}
+use Rattle.link.specs.Said.{Said}
 use Rattle.link.proofs.Answered.{handed-result}
 use Rattle.promises.specs.Images.{place, lastAt}
 use Rattle.promises.specs.Leaves.{MarkAlone, Leaves}
 use Rattle.promises.proofs.Fields.{mark-place}
-use Rattle.promises.proofs.Used.{Used}
+use Rattle.promises.proofs.Used.{Used, planned}
 use Rattle.promises.proofs.Valids.{code-of-mark, rules-kept, agreement}
 
-pub outside : (image : List ℕ) (e p : ℕ) → (p < place image e 48) ⊎ (place image e 52 ≤ p) → Outside (markAt image e) p
+pub outside : (image : List ℕ) (e p : ℕ) → (p < place image e 48) ⊎ (place image e 52 ≤ p) → Outside (markAt image e) 4 p
 outside image e p (inl h) = inl (omega (arith, mark-place image e))
 outside image e p (inr h) = inr (omega (arith, mark-place image e))
 
-module _ (image numbers : List ℕ) (octets : Octets image) (direction kind spi : ℕ) (frame : List ℕ) (e room : ℕ) (q : Reply)
-    (u : Used image numbers direction kind spi frame e room q) where
+module _ (image numbers : List ℕ) (octets : Octets image) (direction : ℕ) (said : Said) (spi : ℕ) (frame : List ℕ) (e room : ℕ) (q : Reply)
+    (u : Used image numbers direction said spi frame e room q) where
   old : lastAt numbers e / 64 ≡ markIn image e
   old = agreed image numbers (u .agree) e (u .serves .entry)
 
@@ -40,10 +43,21 @@ module _ (image numbers : List ℕ) (octets : Octets image) (direction kind spi 
   pub raising : (j : ℕ) → Raised image e (markIn image e + min j (q .number / 64 - markIn image e)) (afterStores image e (q .number) j)
   raising j = raised image e (q .number) j (u .valid) octets (u .serves .entry) (u .fits)
 
-  reached : (j : ℕ) → markIn (afterStores image e (q .number) j) e ≡ lastAt numbers e / 64 + min j (q .stores)
-  reached j = omega (arith, raising j .mark, old, u .stores)
+  -- there are as many as the mark has to rise
+  count : length (q .stores) ≡ q .number / 64 - markIn image e
+  count = planned image numbers direction said spi frame e room q u
 
-  pub mark-alone : (j : ℕ) → MarkAlone image e (lastAt numbers e / 64 + min j (q .stores)) (afterStores image e (q .number) j)
+  -- the image after all of them
+  pub all-after : stored image (q .stores) ≡ afterStores image e (q .number) (length (q .stores))
+  unfolding afterStores
+  all-after =
+      ap (stored image)
+      (sym (take-all (length (q .stores)) (q .stores) (omega arith)) ∙ ap (take (length (q .stores))) (u .plan))
+
+  reached : (j : ℕ) → markIn (afterStores image e (q .number) j) e ≡ lastAt numbers e / 64 + min j (length (q .stores))
+  reached j = omega (arith, raising j .mark, old, count)
+
+  pub mark-alone : (j : ℕ) → MarkAlone image e (lastAt numbers e / 64 + min j (length (q .stores))) (afterStores image e (q .number) j)
   mark-alone j =
       let r = raising j in
       record {
@@ -55,30 +69,32 @@ module _ (image numbers : List ℕ) (octets : Octets image) (direction kind spi 
 
   -- ---- after all of them
 
-  pub rise : lastAt numbers e / 64 + q .stores ≡ q .number / 64
-  rise = omega (arith, old, u .stores, u .above)
+  pub rise : lastAt numbers e / 64 + length (q .stores) ≡ q .number / 64
+  rise = omega (arith, old, count, u .above)
 
-  pub few : q .stores ≤ 16
-  few = omega (arith, old, u .stores, u .near)
+  pub few : length (q .stores) ≤ 16
+  few = omega (arith, old, count, u .near)
 
   module _ (thirtyTwo : length numbers ≡ 32) where
-    pub agree-again : agrees (afterStores image e (q .number) (q .stores)) (set numbers e (q .number)) ≡ true
+    pub agree-again : agrees (stored image (q .stores)) (set numbers (q .entry) (q .number)) ≡ true
     agree-again =
-        still-agrees image numbers e (q .number) (u .agree) (u .serves .entry) (u .valid) octets thirtyTwo (omega (arith, u .above))
-        (u .fits) (q .stores) (omega (arith, u .stores))
+        rw (all-after, u .entry)
+        (still-agrees image numbers e (q .number) (u .agree) (u .serves .entry) (u .valid) octets thirtyTwo (omega (arith, u .above))
+        (u .fits) (length (q .stores)) (omega (arith, count)))
 
-    pub leaves : (output : List ℕ) → q .size ≤ length output → Leaves image numbers output e (q .number) (done q e image numbers output)
+    pub leaves : (output : List ℕ) → q .size ≤ length output → Leaves image numbers output e (q .number) (done q image numbers output)
     leaves output roomy =
-        let after = afterStores image e (q .number) (q .stores) in
+        let n = length (q .stores) in
         let front = length-take-le (q .size) output roomy in
-        let all : lastAt numbers e / 64 + min (q .stores) (q .stores) ≡ q .number / 64 = omega (arith, rise) in
+        let all : lastAt numbers e / 64 + min n n ≡ q .number / 64 = omega (arith, rise) in
         record {
-          images = rw all at (mark-alone (q .stores));
-          agree = agreement after (set numbers e (q .number)) (raising (q .stores) .octets) agree-again;
+          images = rw all-after (rw all at (mark-alone n));
+          agree =
+              agreement (stored image (q .stores)) (set numbers (q .entry) (q .number)) (rw all-after (raising n .octets)) agree-again;
           rise = rise;
           few = few;
-          lasts = refl;
+          lasts = ap (λ (d : ℕ). set numbers d (q .number)) (u .entry);
           size = length-front output (q .result) (q .size) (u .sized ∙ sym front);
-          result = ap length (handed-result q e image numbers output (u .sized)) ∙ u .sized;
+          result = ap length (handed-result q image numbers output (u .sized)) ∙ u .sized;
           rest = drop-at (q .result) _ (q .size) (u .sized);
         }

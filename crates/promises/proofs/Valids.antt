@@ -6,29 +6,34 @@ use mathlib.Core.Path.{_≡_, refl, sym, ap, ap₂, _∙_}
 use mathlib.Core.Bool.{Bool, true, false, not, _&&_, _||_}
 use mathlib.Core.List.{List}
 use native.Mathlib.Nat.{add-zero}
-use native.Mathlib.Decide.{ℕ-discrete}
 use native.Mathlib.Omega.{arith}
-use borrow.Author.Tests.{eqb-true, eq-eqb, le-leb, lt-ltb}
+use borrow.Author.Tests.{eqb-true, eq-eqb, ne-eqb, le-leb, lt-ltb}
 use lib.Dec.{eqb, leb, eqb·suc-zero}
 use lib.ListN.{length}
 use Rattle.octets.specs.Lists.{octet, Octets}
 use Rattle.octets.proofs.Alls.{and-left, and-right, all-every}
 use Rattle.octets.proofs.Numbers.{numberAt-lt}
-use Rattle.frame.specs.Kinds.{kindOf, named}
-use Rattle.association.specs.Body.{serviceOf, kindIn, directionOf, stateOf, spacecraftOf, channelOf, mapOf, windowOf, maskOf}
-use Rattle.association.specs.Body.{addressOk, bodyOk}
-use Rattle.association.specs.Gray.{gray, ungray}
-use Rattle.association.specs.Image.{versionOf, countOf, spiOf, spiBefore, positionOf, bodyAt, bodyOf, laidOut, entryOk, validImage}
-use Rattle.association.specs.Numbers.{markIn, agrees}
+use Rattle.kinds.specs.Kinds.{hasMap, kindOf, named}
+use Rattle.bodies.specs.Body.{serviceOf, kindIn, directionOf, stateOf, spacecraftOf, channelOf, mapOf, windowOf, maskOf, kindOk, bodyOk}
+use Rattle.marks.specs.Gray.{gray, ungray}
+use Rattle.image.specs.Image.{versionOf, countOf, spiOf, spiBefore, positionOf, bodyAt, bodyOf, imageSize, laidOut, entryOk, validImage}
+use Rattle.bodies.specs.Layout.{layoutOf}
+use Rattle.image.specs.Image.{markIn}
+use Rattle.association.specs.Numbers.{agrees}
 use Rattle.association.specs.Search.{bodyServes, matches}
 use Rattle.association.specs.declared.search.Wanted.{Wanted}
-use Rattle.association.proofs.GrayCode.{gray-lt, gray-below, gray-ungray, ungray-gray}
+use Rattle.marks.proofs.GrayCode.{gray-lt, gray-below, gray-ungray, ungray-gray}
 use Rattle.association.proofs.LoadedNumbers.{agreed, agreeing}
-use Rattle.association.proofs.ValidImages.{Valid, ValidBody, valid, spi-rises}
+use Rattle.bodies.proofs.ValidBodies.{ValidBody}
+use Rattle.image.proofs.ValidImages.{Valid, valid, spi-rises}
 use Rattle.link.specs.Calls.{wanted}
+use Rattle.link.specs.Said.{Said, kindSaid}
+use Rattle.promises.specs.Forms.{formOf}
 use Rattle.promises.specs.Images.{place, codeAt, lastAt, BodyRules, ImageRules, Agreeing, Serves}
 use Rattle.promises.proofs.Fields.{service-at, kind-at, direction-at, state-at, spacecraft-at, channel-at, map-at, window-at}
-use Rattle.promises.proofs.Fields.{last-mask-at, mark-is}
+use Rattle.promises.proofs.Fields.{stands, last-mask-at, mark-is}
+use Rattle.promises.proofs.Forms.{Describes, described}
+use Rattle.promises.proofs.Readings.{form}
 
 -- ---- the marks
 
@@ -44,51 +49,22 @@ module _ (image : List ℕ) (octets : Octets image) (i : ℕ) where
   mark-of-code m e =
       mark-is image i ∙ ap ungray e ∙ ungray-gray m (gray-below 32 m (omega (arith, code-below)))
 
--- ---- the limits of each kind
+-- ---- what the mask covers of a TC header, and which kind has a MAP
 
-record Limits (number : ℕ) : Type 0 where
-  spacecraft : kindOf number .mostSpacecraft ≡ 1023
-  channel : kindOf number .mostChannel ≤ 63
-  channelOfTm : number ≡ 3 → kindOf number .mostChannel ≡ 7
-  channelOfTc : (number ≡ 3 → ⊥) → kindOf number .mostChannel ≡ 63
-  map : kindOf number .mostMap ≤ 63
-  mapOfSegmented : number ≡ 2 → kindOf number .mostMap ≡ 63
-  mapOfOthers : (number ≡ 2 → ⊥) → kindOf number .mostMap ≡ 0
-
-limits : (number : ℕ) → 1 ≤ number → number ≤ 3 → Limits number
+mask-of-tc : (number : ℕ) → number ≡ 1 → kindOf number .underMask ≡ 5
 unfolding named
-limits zero low high = absurd (omega arith)
-limits (suc zero) low high =
-    record {
-      spacecraft = refl;
-      channel = omega arith;
-      channelOfTm = λ e. absurd (omega arith);
-      channelOfTc = λ e. refl;
-      map = omega arith;
-      mapOfSegmented = λ e. absurd (omega arith);
-      mapOfOthers = λ e. refl;
-    }
-limits (suc (suc zero)) low high =
-    record {
-      spacecraft = refl;
-      channel = omega arith;
-      channelOfTm = λ e. absurd (omega arith);
-      channelOfTc = λ e. refl;
-      map = omega arith;
-      mapOfSegmented = λ e. refl;
-      mapOfOthers = λ e. absurd (e refl);
-    }
-limits (suc (suc (suc zero))) low high =
-    record {
-      spacecraft = refl;
-      channel = omega arith;
-      channelOfTm = λ e. refl;
-      channelOfTc = λ e. absurd (e refl);
-      map = omega arith;
-      mapOfSegmented = λ e. absurd (omega arith);
-      mapOfOthers = λ e. refl;
-    }
-limits (suc (suc (suc (suc n)))) low high = absurd (omega arith)
+mask-of-tc number e = rw e
+
+-- kind 2 alone has a MAP
+has-map : (number : ℕ) → hasMap (kindOf number) ≡ eqb number 2
+unfolding named
+has-map zero = refl
+has-map (suc zero) = refl
+has-map (suc (suc zero)) = refl
+has-map (suc (suc (suc zero))) = refl
+has-map (suc (suc (suc (suc n)))) =
+    let other : ℕ = suc (suc (suc (suc n))) in
+    simp (ne-eqb other 1 (omega arith), ne-eqb other 2 (omega arith), ne-eqb other 3 (omega arith))
 
 -- ---- a valid image obeys the rules
 
@@ -97,25 +73,23 @@ module _ (image : List ℕ) (octets : Octets image) where
   unfolding markIn
   body-rules i b =
       let kinds = kind-at image i in
-      let l : Limits (kindIn (bodyOf image i)) = limits (kindIn (bodyOf image i)) (b .address .kind .0) (b .address .kind .1) in
-      let a = b .address in
+      let f = described (kindIn (bodyOf image i)) in
+      let a = b .kind in
       record {
         service = rw (← service-at image i) (b .service);
-        kind = rw (← kind-at image i) (a .kind);
+        kind = rw (← kind-at image i) (a .number);
         direction = rw (← direction-at image i) (b .direction);
         state = rw (← state-at image i) (b .state);
-        spacecraft = omega (arith, spacecraft-at image i, a .spacecraft, l .spacecraft);
-        channel = omega (arith, channel-at image i, a .channel, l .channel);
-        channelOfTm = λ tm. omega (arith, channel-at image i, a .channel, l .channelOfTm (kinds ∙ tm));
-        map = omega (arith, map-at image i, a .map, l .map);
-        mapOfOthers = λ other. omega (arith, map-at image i, a .map, l .mapOfOthers (λ e. other (sym kinds ∙ e)));
+        spacecraft = rw (← spacecraft-at image i, ← kinds, f .mostSpacecraft) (a .spacecraft);
+        channel = rw (← channel-at image i, ← kinds, f .mostChannel) (a .channel);
+        map = rw (← map-at image i, ← kinds, f .mostMap) (a .map);
         window = rw (← window-at image i) (b .window);
-        mask = λ tc. sym (last-mask-at image i) ∙ b .mask (kinds ∙ tc);
+        mask = λ tc. sym (last-mask-at image i) ∙ (rw (mask-of-tc (kindIn (bodyOf image i)) (kinds ∙ tc)) at (a .mask));
         mark = rw (code-of-mark image octets i) (gray-lt 26 (markIn image i) (b .mark));
       }
 
   pub rules-kept : validImage image ≡ true → ImageRules image
-  unfolding bodyAt
+  unfolding imageSize layoutOf
   rules-kept passed =
       let v : Valid image = valid image passed in
       record {
@@ -124,7 +98,7 @@ module _ (image : List ℕ) (octets : Octets image) where
         size = omega (arith, v .laid .size);
         spi = λ i h. v .entry i h .spi;
         rising = spi-rises image v;
-        position = λ i h. v .entry i h .position ∙ sym (add-zero (bodyAt image i));
+        position = λ i h. v .entry i h .position ∙ sym (add-zero (bodyAt image i)) ∙ stands image i 0;
         body = λ i h. body-rules i (v .entry i h .body);
       }
 
@@ -141,36 +115,26 @@ implies : (a b : Bool) → (not a || b) ≡ true → a ≡ true → b ≡ true
 implies true b h e = h
 implies false b h e = let z : _≡_ {A = ℕ} 0 1 = cc in absurd (omega arith)
 
-address-ok : (version number : ℕ) (body : List ℕ) → (1 ≤ number) × (number ≤ 3) → spacecraftOf body ≤ kindOf number .mostSpacecraft
-    → channelOf body ≤ kindOf number .mostChannel → mapOf body ≤ kindOf number .mostMap → addressOk version (named number) body ≡ true
+kind-ok : (version number : ℕ) (body : List ℕ) → (1 ≤ number) × (number ≤ 3) → spacecraftOf body ≤ kindOf number .mostSpacecraft
+    → channelOf body ≤ kindOf number .mostChannel → mapOf body ≤ kindOf number .mostMap
+    → (number ≡ 1 → octet (maskOf body) 5 ≡ 0) → kindOk version (named number) body ≡ true
 unfolding named
-address-ok version zero body h s c m = absurd (omega arith)
-address-ok version (suc zero) body h s c m = ap₂ _&&_ (ap₂ _&&_ (le-leb _ _ s) (le-leb _ _ c)) (le-leb _ _ m)
-address-ok version (suc (suc zero)) body h s c m = ap₂ _&&_ (ap₂ _&&_ (le-leb _ _ s) (le-leb _ _ c)) (le-leb _ _ m)
-address-ok version (suc (suc (suc zero))) body h s c m = ap₂ _&&_ (ap₂ _&&_ (le-leb _ _ s) (le-leb _ _ c)) (le-leb _ _ m)
-address-ok version (suc (suc (suc (suc n)))) body h s c m = absurd (omega arith)
+kind-ok version zero body h s c m k = absurd (omega arith)
+kind-ok version (suc zero) body h s c m k =
+    ap₂ _&&_ (ap₂ _&&_ (ap₂ _&&_ (le-leb _ _ s) (le-leb _ _ c)) (le-leb _ _ m)) (eq-eqb (octet (maskOf body) 5) 0 (k refl))
+kind-ok version (suc (suc zero)) body h s c m k =
+    ap₂ _&&_ (ap₂ _&&_ (ap₂ _&&_ (le-leb _ _ s) (le-leb _ _ c)) (le-leb _ _ m)) refl
+kind-ok version (suc (suc (suc zero))) body h s c m k =
+    ap₂ _&&_ (ap₂ _&&_ (ap₂ _&&_ (le-leb _ _ s) (le-leb _ _ c)) (le-leb _ _ m)) refl
+kind-ok version (suc (suc (suc (suc n)))) body h s c m k = absurd (omega arith)
 
 module _ (image : List ℕ) (octets : Octets image) (rules : ImageRules image) where
   module _ (i : ℕ) (b : BodyRules image i) where
     abbrev body : List ℕ
     body = bodyOf image i
 
-    ruled : Limits (kindIn body)
-    ruled = let e = kind-at image i in limits (kindIn body) (omega (arith, b .kind .0)) (omega (arith, b .kind .1))
-
-    channel-fits : channelOf body ≤ kindOf (kindIn body) .mostChannel
-    channel-fits = by-kind (ℕ-discrete (kindIn body) 3)
-      where
-        by-kind : Dec (kindIn body ≡ 3) → channelOf body ≤ kindOf (kindIn body) .mostChannel
-        by-kind (yes e) = omega (arith, channel-at image i, b .channelOfTm (sym (kind-at image i) ∙ e), ruled .channelOfTm e)
-        by-kind (no e) = omega (arith, channel-at image i, b .channel, ruled .channelOfTc e)
-
-    map-fits : mapOf body ≤ kindOf (kindIn body) .mostMap
-    map-fits = by-kind (ℕ-discrete (kindIn body) 2)
-      where
-        by-kind : Dec (kindIn body ≡ 2) → mapOf body ≤ kindOf (kindIn body) .mostMap
-        by-kind (yes e) = omega (arith, map-at image i, b .map, ruled .mapOfSegmented e)
-        by-kind (no e) = omega (arith, map-at image i, b .mapOfOthers (λ q. e (kind-at image i ∙ q)))
+    limits : Describes (formOf (kindIn body)) (kindOf (kindIn body))
+    limits = described (kindIn body)
 
     mark-fits : markIn image i < 2 ^ 26
     mark-fits = gray-below 26 (markIn image i) (rw (code-of-mark image octets i) at (b .mark))
@@ -182,15 +146,15 @@ module _ (image : List ℕ) (octets : Octets image) (rules : ImageRules image) w
         (ap₂ _&&_
         (ap₂ _&&_
         (ap₂ _&&_
-        (ap₂ _&&_
         (ap₂ _&&_ (between 1 (serviceOf body) 2 (rw (service-at image i) (b .service)))
         (between 1 (directionOf body) 2 (rw (direction-at image i) (b .direction))))
         (le-leb (stateOf body) 2 (rw (state-at image i) (b .state))))
-        (address-ok (versionOf image) (kindIn body) body (rw (kind-at image i) (b .kind))
-        (omega (arith, spacecraft-at image i, b .spacecraft, ruled .spacecraft)) channel-fits map-fits))
+        (kind-ok (versionOf image) (kindIn body) body (rw (kind-at image i) (b .kind))
+        (rw (spacecraft-at image i, ← limits .mostSpacecraft, kind-at image i) (b .spacecraft))
+        (rw (channel-at image i, ← limits .mostChannel, kind-at image i) (b .channel))
+        (rw (map-at image i, ← limits .mostMap, kind-at image i) (b .map))
+        (λ e. last-mask-at image i ∙ b .mask (sym (kind-at image i) ∙ e))))
         (between 1 (windowOf body) 1024 (rw (window-at image i) (b .window))))
-        (implied (eqb (kindIn body) 1) (eqb (octet (maskOf body) 5) 0)
-        (λ e. eq-eqb (octet (maskOf body) 5) 0 (last-mask-at image i ∙ b .mask (sym (kind-at image i) ∙ eqb-true (kindIn body) 1 e)))))
         (lt-ltb (markIn image i) (2 ^ 26) mark-fits)
 
   before-below : (i : ℕ) → i < countOf image → spiBefore image i < spiOf image i
@@ -198,14 +162,14 @@ module _ (image : List ℕ) (octets : Octets image) (rules : ImageRules image) w
   before-below (suc i) h = let here : suc i - 1 ≡ i = omega arith in rw (eqb·suc-zero i, here) (rules .rising i (suc i) (omega arith) h)
 
   entry-ok : (i : ℕ) → i < countOf image → entryOk image i ≡ true
-  unfolding entryOk bodyAt
+  unfolding entryOk
   entry-ok i h =
       ap₂ _&&_
       (ap₂ _&&_ (between 1 (spiOf image i) 65534 (rules .spi i h)) (lt-ltb (spiBefore image i) (spiOf image i) (before-below i h)))
-      (eq-eqb (positionOf image i) (bodyAt image i) (rules .position i h ∙ add-zero (bodyAt image i)))
+      (eq-eqb (positionOf image i) (bodyAt image i) (rules .position i h ∙ sym (stands image i 0) ∙ add-zero (bodyAt image i)))
 
   laid-ok : laidOut image ≡ true
-  unfolding laidOut
+  unfolding laidOut imageSize layoutOf
   laid-ok =
       ap₂ _&&_ (ap₂ _&&_ (eq-eqb (versionOf image) 1 (rules .version)) (le-leb (countOf image) 32 (rules .count)))
       (eq-eqb (length image) _ (omega (arith, rules .size)))
@@ -228,11 +192,11 @@ module _ (image numbers : List ℕ) (octets : Octets image) where
 
 -- ---- the entry that serves a frame
 
-module _ (image : List ℕ) (direction kind spi : ℕ) (frame : List ℕ) (i : ℕ) where
+module _ (image : List ℕ) (direction : ℕ) (said : Said) (spi : ℕ) (frame : List ℕ) (i : ℕ) where
   abbrev w : Wanted
-  w = wanted spi direction kind frame
+  w = wanted spi direction said frame
 
-  pub serving : i < countOf image → matches image w i ≡ true → Serves image direction kind spi frame i
+  pub serving : i < countOf image → matches image w i ≡ true → Serves image direction said spi frame i
   unfolding matches bodyServes wanted
   serving below e =
       let body = bodyOf image i in
@@ -241,18 +205,24 @@ module _ (image : List ℕ) (direction kind spi : ℕ) (frame : List ℕ) (i : �
         spis = eqb-true (spiOf image i) spi (search and-left);
         state = sym (state-at image i) ∙ eqb-true (stateOf body) 2 (search (and-left, and-right));
         directions = sym (direction-at image i) ∙ eqb-true (directionOf body) direction (search (and-left, and-right));
-        kinds = sym (kind-at image i) ∙ eqb-true (kindIn body) kind (search (and-left, and-right));
+        kinds = sym (kind-at image i) ∙ eqb-true (kindIn body) (said .kind) (search (and-left, and-right));
         spacecraft =
-            sym (spacecraft-at image i) ∙ eqb-true (spacecraftOf body) (kindOf kind .spacecraft frame) (search (and-left, and-right));
-        channel = sym (channel-at image i) ∙ eqb-true (channelOf body) (kindOf kind .channel frame) (search (and-left, and-right));
+            sym (spacecraft-at image i)
+            ∙ eqb-true (spacecraftOf body) (kindSaid said .spacecraft frame) (search (and-left, and-right))
+            ∙ sym (form said .spacecraft frame);
+        channel =
+            sym (channel-at image i)
+            ∙ eqb-true (channelOf body) (kindSaid said .channel frame) (search (and-left, and-right))
+            ∙ sym (form said .channel frame);
         map = λ e2.
             sym (map-at image i)
-            ∙ eqb-true (mapOf body) (kindOf kind .map frame)
-            (implies (eqb (kindIn body) 2) (eqb (mapOf body) (kindOf kind .map frame)) (search (and-left, and-right))
-            (eq-eqb (kindIn body) 2 (eqb-true (kindIn body) kind (search (and-left, and-right)) ∙ e2)));
+            ∙ eqb-true (mapOf body) (kindSaid said .map frame)
+            (implies (hasMap (kindOf (kindIn body))) (eqb (mapOf body) (kindSaid said .map frame)) (search (and-left, and-right))
+            (has-map (kindIn body) ∙ eq-eqb (kindIn body) 2 (eqb-true (kindIn body) (said .kind) (search (and-left, and-right)) ∙ e2)))
+            ∙ sym (form said .map frame);
       }
 
-  pub served : Serves image direction kind spi frame i → matches image w i ≡ true
+  pub served : Serves image direction said spi frame i → matches image w i ≡ true
   unfolding matches bodyServes wanted
   served s =
       let body = bodyOf image i in
@@ -263,10 +233,10 @@ module _ (image : List ℕ) (direction kind spi : ℕ) (frame : List ℕ) (i : �
       (ap₂ _&&_
       (ap₂ _&&_ (eq-eqb (stateOf body) 2 (state-at image i ∙ s .state))
       (eq-eqb (directionOf body) direction (direction-at image i ∙ s .directions)))
-      (eq-eqb (kindIn body) kind (kind-at image i ∙ s .kinds)))
-      (eq-eqb (spacecraftOf body) (kindOf kind .spacecraft frame) (spacecraft-at image i ∙ s .spacecraft)))
-      (eq-eqb (channelOf body) (kindOf kind .channel frame) (channel-at image i ∙ s .channel)))
-      (implied (eqb (kindIn body) 2) (eqb (mapOf body) (kindOf kind .map frame))
+      (eq-eqb (kindIn body) (said .kind) (kind-at image i ∙ s .kinds)))
+      (eq-eqb (spacecraftOf body) (kindSaid said .spacecraft frame) (spacecraft-at image i ∙ s .spacecraft ∙ form said .spacecraft frame)))
+      (eq-eqb (channelOf body) (kindSaid said .channel frame) (channel-at image i ∙ s .channel ∙ form said .channel frame)))
+      (implied (hasMap (kindOf (kindIn body))) (eqb (mapOf body) (kindSaid said .map frame))
       (λ e2.
-      eq-eqb (mapOf body) (kindOf kind .map frame)
-      (map-at image i ∙ s .map (sym (kind-at image i ∙ s .kinds) ∙ eqb-true (kindIn body) 2 e2)))))
+      eq-eqb (mapOf body) (kindSaid said .map frame)
+      (map-at image i ∙ s .map (sym (kind-at image i ∙ s .kinds) ∙ eqb-true (kindIn body) 2 (sym (has-map (kindIn body)) ∙ e2)) ∙ form said .map frame))))

@@ -1,5 +1,6 @@
 -- The promises are not empty. Under both services and every kind there are two ends that meet the conditions of the round trip; every
--- answer but 9 is given; runs send and release; and two images of different projects share an entry. All of it by computing.
+-- answer but 9 is given; runs send and release; and two images of different projects share an entry, or have none for a frame. All of it
+-- by computing.
 -- Assumes nothing.
 use Prim.Native.Nat.{ℕ, _+_, _<_}
 use mathlib.Core.Path.{_≡_, refl}
@@ -13,16 +14,17 @@ use Rattle.octets.specs.Lists.{Octets, tab, part}
 use Rattle.octets.specs.Numbers.{number, bytes}
 use Rattle.octets.proofs.Alls.{and-left, and-right}
 use Rattle.octets.proofs.Bounds.{octets-nil, octets-cons}
-use Rattle.association.specs.Image.{validImage}
+use Rattle.image.specs.Image.{validImage}
 use Rattle.association.specs.Numbers.{agrees}
 use Rattle.link.specs.Calls.{handed, loaded, secured, checkedAs, checked}
-use Rattle.link.specs.Services.{service}
-use Rattle.promises.specs.Cases as cases
-use Rattle.promises.specs.Cases.{allTrue, imageOf, first, frameC, securedC, clearTc, room, imageB, receiver, sender}
-use Rattle.promises.specs.Frames.{clearData, numberOn}
-use Rattle.promises.specs.Isolation.{Standing, both, SameAnswer}
+use Rattle.protection.specs.Services.{service}
+use Rattle.link.specs.Said.{Said, saying}
+use Rattle.promises.specs.Cases.{allTrue, imageOf, oneNumber, frameC, frameSent, securedC, clearTc, room, imageB, receiver, sender}
+use Rattle.promises.specs.Frames.{dataInClear, spiOn, numberOn}
+use Rattle.promises.specs.Isolation.{Standing, both, neither, SameAnswer}
 use Rattle.promises.specs.RoundTrip.{Released}
-use Rattle.promises.specs.Runs.{load, send, check, sendCut, after, trace, shows, loading, sent, released, shownOf}
+use Rattle.promises.specs.Runs.{load, send, check, sendCut, after, trace, shows, restart, sent, released, shownOf}
+use Rattle.promises.proofs.Answers.{nobody}
 use Rattle.promises.proofs.Computing.{everything}
 use Rattle.promises.proofs.Isolation.{isolation}
 use Rattle.promises.proofs.RoundTrip.{round-trip}
@@ -39,36 +41,36 @@ octets-of (x ∷ xs) e =
 
 -- ---- the round trip, under any service and any kind
 
-module _ (service kind : ℕ) (frame : List ℕ) where
+module _ (service : ℕ) (said : Said) (frame : List ℕ) where
   abbrev here : List ℕ
-  here = imageOf service kind 1 100 0
+  here = imageOf service (said .kind) 1 100 0
 
   abbrev there : List ℕ
-  there = imageOf service kind 2 100 0
+  there = imageOf service (said .kind) 2 100 0
 
   abbrev out : List ℕ
-  out = handed (secured here (first 63) kind 9 frame room)
+  out = handed (secured here (oneNumber 63) said 9 frame room)
 
   -- what has to be computed: valid ends, an answer 0, a number in the window and room for the data
   abbrev meets : Bool
   meets =
       areOctets there
       && validImage there
-      && agrees there (first 63)
-      && eqb (secured here (first 63) kind 9 frame room .answer) 0
-      && eqb (numberOn service kind out) 64
-      && leb (length (clearData kind frame)) (length room)
+      && agrees there (oneNumber 63)
+      && eqb (secured here (oneNumber 63) said 9 frame room .answer) 0
+      && eqb (numberOn service said out) 64
+      && leb (length (dataInClear said frame)) (length room)
 
-  pub released-there : meets ≡ true → Released (clearData kind frame) (checked there (first 63) kind out room)
+  pub released-there : meets ≡ true → Released (dataInClear said frame) (checked there (oneNumber 63) said out room)
   unfolding imageOf tab part number bytes
   released-there e =
       let octets = octets-of there (search (and-left, and-right)) in
-      let done-so = eqb-true (secured here (first 63) kind 9 frame room .answer) 0 (search (and-left, and-right)) in
-      let n = eqb-true (numberOn service kind out) 64 (search (and-left, and-right)) in
-      round-trip .released here (first 63) kind 9 frame room there (first 63) room 0 0 octets done-so (lit< tt) refl
+      let done-so = eqb-true (secured here (oneNumber 63) said 9 frame room .answer) 0 (search (and-left, and-right)) in
+      let n = eqb-true (numberOn service said out) 64 (search (and-left, and-right)) in
+      round-trip .released here (oneNumber 63) said 9 frame room there (oneNumber 63) room 0 0 octets done-so (lit< tt) refl
       (record {
         valid = rules-kept there octets (search (and-left, and-right));
-        agree = agreement there (first 63) octets (search (and-left, and-right));
+        agree = agreement there (oneNumber 63) octets (search (and-left, and-right));
         entry = lit< tt;
         spi = refl;
         service = refl;
@@ -82,7 +84,7 @@ module _ (service kind : ℕ) (frame : List ℕ) where
         state = refl;
       })
       (rw n (record { above = omega arith; near = omega arith; most = omega arith }))
-      (leb-true (length (clearData kind frame)) (length room) (search (and-left, and-right)))
+      (leb-true (length (dataInClear said frame)) (length room) (search (and-left, and-right)))
 
 -- clear frames of spacecraft 27 and channel 5: TC with a segment header, TM, and TM with an operational control field
 abbrev segmentedFrame : List ℕ
@@ -96,14 +98,14 @@ ocfFrame = 0x01 ∷ 0xBB ∷ 0x00 ∷ 0x00 ∷ 0x00 ∷ 0x00 ∷ 0xAA ∷ 0x01 �
 
 pub conditions-met :
     allTrue
-    (meets 1 1 frameC
-    ∷ meets 2 1 frameC
-    ∷ meets 1 2 segmentedFrame
-    ∷ meets 2 2 segmentedFrame
-    ∷ meets 1 3 tmFrame
-    ∷ meets 2 3 tmFrame
-    ∷ meets 1 3 ocfFrame
-    ∷ meets 2 3 ocfFrame
+    (meets 1 (saying 1) frameC
+    ∷ meets 2 (saying 1) frameC
+    ∷ meets 1 (saying 2) segmentedFrame
+    ∷ meets 2 (saying 2) segmentedFrame
+    ∷ meets 1 (saying 3) tmFrame
+    ∷ meets 2 (saying 3) tmFrame
+    ∷ meets 1 (saying 3) ocfFrame
+    ∷ meets 2 (saying 3) ocfFrame
     ∷ [])
     ≡ true
 unfolding everything
@@ -114,18 +116,18 @@ conditions-met = refl
 pub answers-given :
     allTrue
     (eqb (loaded [] [] .answer) 1
-    ∷ eqb (cases.sending [] 63 .answer) 1
-    ∷ eqb (cases.sending imageB 64 .answer) 2
-    ∷ eqb (secured imageB (first 63) 4 9 frameC room .answer) 3
-    ∷ eqb (secured imageB (first 63) 1 8 frameC room .answer) 4
-    ∷ eqb (secured imageB (first 63) 1 9 (clearTc 1003) room .answer) 11
-    ∷ eqb (secured imageB (first 63) 1 9 frameC [] .answer) 6
-    ∷ eqb (cases.sending (sender 100 0x02000000) 4294967295 .answer) 10
-    ∷ eqb (checkedAs true (receiver 100 0) (first 63) 1 (0x00 ∷ 0x1B ∷ 0x14 ∷ 0x07 ∷ 0x00 ∷ 0x00 ∷ 0x09 ∷ 0xAA ∷ []) room .answer) 5
-    ∷ eqb (checkedAs true (receiver 100 0) (first 63) 1 (securedC 64) [] .answer) 6
-    ∷ eqb (checkedAs false (receiver 100 0) (first 63) 1 (securedC 64) room .answer) 7
-    ∷ eqb (checkedAs false (receiver 100 0) (first 63) 1 (securedC 164) room .answer) 7
-    ∷ eqb (checkedAs true (receiver 100 0) (first 63) 1 (securedC 164) room .answer) 8
+    ∷ eqb (frameSent [] 63 .answer) 1
+    ∷ eqb (frameSent imageB 64 .answer) 2
+    ∷ eqb (secured imageB (oneNumber 63) (saying 4) 9 frameC room .answer) 3
+    ∷ eqb (secured imageB (oneNumber 63) (saying 1) 8 frameC room .answer) 4
+    ∷ eqb (secured imageB (oneNumber 63) (saying 1) 9 (clearTc 1003) room .answer) 11
+    ∷ eqb (secured imageB (oneNumber 63) (saying 1) 9 frameC [] .answer) 6
+    ∷ eqb (frameSent (sender 100 0x02000000) 4294967295 .answer) 10
+    ∷ eqb (checkedAs true (receiver 100 0) (oneNumber 63) (saying 1) (0x00 ∷ 0x1B ∷ 0x14 ∷ 0x07 ∷ 0x00 ∷ 0x00 ∷ 0x09 ∷ 0xAA ∷ []) room .answer) 5
+    ∷ eqb (checkedAs true (receiver 100 0) (oneNumber 63) (saying 1) (securedC 64) [] .answer) 6
+    ∷ eqb (checkedAs false (receiver 100 0) (oneNumber 63) (saying 1) (securedC 64) room .answer) 7
+    ∷ eqb (checkedAs false (receiver 100 0) (oneNumber 63) (saying 1) (securedC 164) room .answer) 7
+    ∷ eqb (checkedAs true (receiver 100 0) (oneNumber 63) (saying 1) (securedC 164) room .answer) 8
     ∷ [])
     ≡ true
 unfolding everything
@@ -136,35 +138,35 @@ answers-given = refl
 -- sent 64 and 65; a load; sent 128; a load; power fails after the one store of a sending, and a load; then 256
 pub run-sends :
     shownOf 0 imageB []
-    (send 1 9 frameC room
-    ∷ send 1 9 frameC room
+    (send (saying 1) 9 frameC room
+    ∷ send (saying 1) 9 frameC room
     ∷ load []
-    ∷ send 1 9 frameC room
+    ∷ send (saying 1) 9 frameC room
     ∷ load []
-    ∷ sendCut 1 9 frameC room 1 []
-    ∷ send 1 9 frameC room
+    ∷ sendCut (saying 1) 9 frameC room 1 []
+    ∷ send (saying 1) 9 frameC room
     ∷ [])
-    ≡ loading ∷ sent 64 ∷ sent 65 ∷ loading ∷ sent 128 ∷ loading ∷ loading ∷ sent 256 ∷ []
+    ≡ restart ∷ sent 64 ∷ sent 65 ∷ restart ∷ sent 128 ∷ restart ∷ restart ∷ sent 256 ∷ []
 unfolding everything trace shows after
 run-sends = refl
 
 -- the frame of the first sending, released at the other end
 pub run-releases :
-    shownOf 0 (receiver 100 0) [] (check 1 (handed (secured imageB (first 63) 1 9 frameC room)) room ∷ []) ≡ loading ∷ released 64 ∷ []
+    shownOf 0 (receiver 100 0) [] (check (saying 1) (handed (frameSent imageB 63)) room ∷ []) ≡ restart ∷ released 64 ∷ []
 unfolding everything trace shows after
-run-releases = rw (released-there 1 1 frameC refl .answer)
+run-releases = rw (released-there 1 (saying 1) frameC refl .answer)
 
 -- ---- two projects' images
 
--- the entry of case B behind another project's entry, of SPI 3
-abbrev twoProjects : List ℕ
-twoProjects =
+-- the entry of case B, sending or receiving, behind another project's entry, of SPI 3
+abbrev twoProjects : ℕ → List ℕ
+twoProjects direction =
     0x01 ∷ 0x02 ∷ 0x00 ∷ 0x03 ∷ 0x00 ∷ 0x0A ∷ 0x00 ∷ 0x09 ∷ 0x00 ∷ 0x3E ∷ []
     ++ (0x02 ∷ 0x03 ∷ 0x01 ∷ 0x02 ∷ 0x00 ∷ 0x01 ∷ 0x02 ∷ 0x00 ∷ 0x00 ∷ 0x07 ∷ [])
     ++ replicate 6 0x00
     ++ replicate 32 0x09
     ++ bytes 4 0x00000001
-    ++ (0x01 ∷ 0x01 ∷ 0x01 ∷ 0x02 ∷ 0x00 ∷ 0x1B ∷ 0x05 ∷ 0x00 ∷ 0x00 ∷ 0x64 ∷ [])
+    ++ (0x01 ∷ 0x01 ∷ direction ∷ 0x02 ∷ 0x00 ∷ 0x1B ∷ 0x05 ∷ 0x00 ∷ 0x00 ∷ 0x64 ∷ [])
     ++ replicate 5 0xFF
     ++ (0x00 ∷ [])
     ++ replicate 32 0x07
@@ -179,9 +181,53 @@ standing image numbers o v a =
     let octets = octets-of image o in
     record { octets = octets; valid = rules-kept image octets v; agree = agreement image numbers octets a }
 
-pub same-for-both : SameAnswer (secured imageB (first 63) 1 9 frameC room) (secured twoProjects twoNumbers 1 9 frameC room)
+-- one project's image and two projects', sending and receiving
+one-sends : Standing imageB (oneNumber 63)
 unfolding everything
-same-for-both =
-    isolation .sending imageB (first 63) twoProjects twoNumbers 1 9 frameC room room (standing imageB (first 63) refl refl refl)
-    (standing twoProjects twoNumbers refl refl refl) refl
-    (both 0 1 (serving imageB 1 1 9 frameC 0 (lit< tt) refl) (serving twoProjects 1 1 9 frameC 1 (lit< tt) refl) refl refl)
+one-sends = standing imageB (oneNumber 63) refl refl refl
+
+two-send : Standing (twoProjects 1) twoNumbers
+unfolding everything
+two-send = standing (twoProjects 1) twoNumbers refl refl refl
+
+one-receives : Standing (receiver 100 0) (oneNumber 63)
+unfolding everything
+one-receives = standing (receiver 100 0) (oneNumber 63) refl refl refl
+
+two-receive : Standing (twoProjects 2) twoNumbers
+unfolding everything
+two-receive = standing (twoProjects 2) twoNumbers refl refl refl
+
+-- a sending, and the check of the frame that it hands out, under the entry that both images have
+pub same-sending : SameAnswer (secured imageB (oneNumber 63) (saying 1) 9 frameC room) (secured (twoProjects 1) twoNumbers (saying 1) 9 frameC room)
+unfolding everything
+same-sending =
+    isolation .sending imageB (oneNumber 63) (twoProjects 1) twoNumbers (saying 1) 9 frameC room room one-sends two-send refl
+    (both 0 1 (serving imageB 1 (saying 1) 9 frameC 0 (lit< tt) refl) (serving (twoProjects 1) 1 (saying 1) 9 frameC 1 (lit< tt) refl)
+    refl refl)
+
+pub same-check : let frame = out 1 (saying 1) frameC in
+    SameAnswer (checked (receiver 100 0) (oneNumber 63) (saying 1) frame room) (checked (twoProjects 2) twoNumbers (saying 1) frame room)
+unfolding everything
+same-check =
+    let frame = out 1 (saying 1) frameC in
+    let spi = spiOn (saying 1) frame in
+    isolation .checking (receiver 100 0) (oneNumber 63) (twoProjects 2) twoNumbers (saying 1) frame room room one-receives two-receive refl
+    (both 0 1 (serving (receiver 100 0) 2 (saying 1) spi frame 0 (lit< tt) refl) (serving (twoProjects 2) 2 (saying 1) spi frame 1 (lit< tt) refl)
+    refl refl)
+
+-- a sending under SPI 8 and a check at the ends that send: neither image has an entry for them
+pub neither-sends : SameAnswer (secured imageB (oneNumber 63) (saying 1) 8 frameC room) (secured (twoProjects 1) twoNumbers (saying 1) 8 frameC room)
+unfolding everything
+neither-sends =
+    isolation .sending imageB (oneNumber 63) (twoProjects 1) twoNumbers (saying 1) 8 frameC room room one-sends two-send refl
+    (neither (λ i s. nobody imageB (oneNumber 63) (one-sends .octets) 1 (saying 1) 8 frameC refl (i, s))
+    (λ i s. nobody (twoProjects 1) twoNumbers (two-send .octets) 1 (saying 1) 8 frameC refl (i, s)))
+
+pub neither-checks :
+    SameAnswer (checked imageB (oneNumber 63) (saying 1) (securedC 64) room) (checked (twoProjects 1) twoNumbers (saying 1) (securedC 64) room)
+unfolding everything
+neither-checks =
+    isolation .checking imageB (oneNumber 63) (twoProjects 1) twoNumbers (saying 1) (securedC 64) room room one-sends two-send refl
+    (neither (λ i s. nobody imageB (oneNumber 63) (one-sends .octets) 2 (saying 1) 9 (securedC 64) refl (i, s))
+    (λ i s. nobody (twoProjects 1) twoNumbers (two-send .octets) 2 (saying 1) 9 (securedC 64) refl (i, s)))

@@ -1,6 +1,7 @@
--- When the answer is 0, and when it is another. Each call answers the number of the first rule in the paper's order that is broken, and 0
--- if none is. The rules stand here as plain propositions beside their numbers, so a module that refuses without a reason, accepts in spite
--- of one, or tests in another order is not the one that is promised. It supposes only that the image's numbers are octets.
+-- When the answer is 0, and when it is another. Each call reports the answer of the first rule in the paper's order that is broken, and 0 if
+-- none is. The rules stand here as plain propositions beside their answers, so a module that refuses without a reason, accepts in spite of
+-- one, or tests in another order is not the one that is promised. An answer's number and values are those that `reported` gives it, the
+-- definition by which the code's answers are read, and it is the paper's table. It supposes only that the image's numbers are octets.
 -- Assumes nothing.
 use Prim.Native.Nat.{ℕ, _+_, _≤_, _<_}
 use mathlib.Core.Logic.{_⊎_}
@@ -8,69 +9,98 @@ use mathlib.Core.Path.{_≡_}
 use mathlib.Core.List.{List}
 use lib.ListN.{length}
 use Rattle.octets.specs.Lists.{Octets}
-use Rattle.frame.specs.Kinds.{kindOf}
-use Rattle.link.specs.Calls.{loaded, secured, checked}
+use Rattle.link.specs.Answers.{Reported, reported}
+use Rattle.link.specs.Calls.{Left, loaded, secured, checked}
+use Rattle.link.specs.Said.{Said}
+use Rattle.link.specs.declared.answers.Answer.{Answer}
+use Rattle.link.specs.declared.answers.Answer.the-variants as answer
+use Rattle.promises.specs.Forms.{formSaid}
 use Rattle.promises.specs.Images.{ImageRules, Agreeing, InWindow, Serves, serviceAt, windowAt, maskAt, keyAt, lastAt}
-use Rattle.promises.specs.Frames.{FrameRules, headerSize, securitySize, spiOn, numberOn, textOn, macOn, rightMac}
+use Rattle.promises.specs.Frames.{FrameRules, headerSize, trailerSize, securitySize, spiOn, numberOn, textOn, macOn, rightMac}
+
+-- ---- the table: a refusal reports length 0 and 0 stores
+
+abbrev pub reporting : ℕ → ℕ → ℕ → Reported
+reporting number length stores = record { number = number; length = length; stores = stores }
+
+pub record Table : Type 0 where
+  pub zero : (length stores : ℕ) → reported (answer.Done length stores) ≡ reporting 0 length stores
+  pub one : reported answer.BadImage ≡ reporting 1 0 0
+  pub two : reported answer.BadMarks ≡ reporting 2 0 0
+  pub three : reported answer.BadFrame ≡ reporting 3 0 0
+  pub four : reported answer.NoEntry ≡ reporting 4 0 0
+  pub five : reported answer.TooShort ≡ reporting 5 0 0
+  pub six : reported answer.NoRoom ≡ reporting 6 0 0
+  pub seven : reported answer.WrongMac ≡ reporting 7 0 0
+  pub eight : reported answer.OutsideWindow ≡ reporting 8 0 0
+  pub nine : reported answer.BadPadding ≡ reporting 9 0 0
+  pub ten : reported answer.NumbersSpent ≡ reporting 10 0 0
+  pub eleven : reported answer.TooLong ≡ reporting 11 0 0
 
 -- ---- the first rule that is broken
 
--- rules in their order, each with its number and what it asks
+-- rules in their order, each with the answer to a call that breaks it and what it asks
 pub data Rules : Type 1 where
-  rule : ℕ → Type 0 → Rules → Rules
-  done : Rules
+  rule : Answer → Type 0 → Rules → Rules
+  noMore : Rules
 
--- the answer that they give: a rule that is broken gives its number, and behind one that is kept the next decides; where all are kept it
--- is 0
-unfoldable pub Gives : Rules → ℕ → Type 0
-Gives (rule number kept behind) answer = ((kept → ⊥) × (answer ≡ number)) ⊎ (kept × Gives behind answer)
-Gives done answer = answer ≡ 0
+abbrev pub reportOf : Left → Reported
+reportOf x = reporting (x .answer) (x .length) (x .stores)
+
+-- what they have a call report: a rule that is broken gives its answer, and behind one that is kept the next decides; where all are kept,
+-- it is done
+unfoldable pub Gives : Rules → Reported → Type 0
+Gives (rule refusal kept behind) report = ((kept → ⊥) × (report ≡ reported refusal)) ⊎ (kept × Gives behind report)
+Gives noMore report = report ≡ reported (answer.Done (report .length) (report .stores))
 
 -- they give this answer and no other
-pub record Exactly (rules : Rules) (answer : ℕ) : Type 0 where
-  pub given : Gives rules answer
-  pub alone : (other : ℕ) → Gives rules other → other ≡ answer
+pub record Exactly (rules : Rules) (report : Reported) : Type 0 where
+  pub given : Gives rules report
+  pub alone : (other : Reported) → Gives rules other → other .number ≡ report .number
 
 -- ---- the rules
 
 abbrev pub loadRules : List ℕ → Rules
-loadRules image = rule 1 (ImageRules image) done
+loadRules image = rule answer.BadImage (ImageRules image) noMore
 
--- `under` the entry that serves the frame, of which a valid image has at most one
-abbrev pub securingRules : List ℕ → List ℕ → ℕ → ℕ → List ℕ → List ℕ → Rules
-securingRules image numbers kind spi frame output =
-    let serves : ℕ → Type 0 = Serves image 1 kind spi frame in
+-- in the order 1, 2, 3, 4, 11, 6, 10; `under` the entry that serves the frame, of which a valid image has at most one
+abbrev pub securingRules : List ℕ → List ℕ → Said → ℕ → List ℕ → List ℕ → Rules
+securingRules image numbers said spi frame output =
+    let serves : ℕ → Type 0 = Serves image 1 said spi frame in
     let under : (ℕ → Type 0) → Type 0 = λ kept. (e : ℕ) → serves e → kept e in
     let size : ℕ → ℕ = λ e. length frame + securitySize (serviceAt image e) + 16 in
-    rule 1 (ImageRules image)
-    (rule 2 (Agreeing image numbers)
-    (rule 3 (FrameRules kind frame 1)
-    (rule 4 ((e : ℕ) × serves e)
-    (rule 11 (under (λ e. size e ≤ kindOf kind .largest))
-    (rule 6 (under (λ e. size e ≤ length output))
-    (rule 10 (under (λ e. lastAt numbers e < 4294967295))
-    done))))))
+    rule answer.BadImage (ImageRules image)
+    (rule answer.BadMarks (Agreeing image numbers)
+    (rule answer.BadFrame (FrameRules said frame 1)
+    (rule answer.NoEntry ((e : ℕ) × serves e)
+    (rule answer.TooLong (under (λ e. size e ≤ formSaid said .largest))
+    (rule answer.NoRoom (under (λ e. size e ≤ length output))
+    (rule answer.NumbersSpent (under (λ e. lastAt numbers e < 4294967295))
+    noMore))))))
 
--- rule 9 has no fill octets to count: padding is left out of the base, so none is ever stated
-abbrev pub checkingRules : List ℕ → List ℕ → ℕ → List ℕ → List ℕ → Rules
-checkingRules image numbers kind frame output =
-    let serves : ℕ → Type 0 = Serves image 2 kind (spiOn kind frame) frame in
+-- in the order 1, 2, 3, 4, 5, 9, 6, 7, 8. Rule 9 has no fill octets to count: padding is left out of the base, so none is ever stated
+abbrev pub checkingRules : List ℕ → List ℕ → Said → List ℕ → List ℕ → Rules
+checkingRules image numbers said frame output =
+    let serves : ℕ → Type 0 = Serves image 2 said (spiOn said frame) frame in
     let under : (ℕ → Type 0) → Type 0 = λ kept. (e : ℕ) → serves e → kept e in
-    let text : ℕ → List ℕ = λ e. textOn (serviceAt image e) kind frame in
-    rule 1 (ImageRules image)
-    (rule 2 (Agreeing image numbers)
-    (rule 3 (FrameRules kind frame 2)
-    (rule 4 ((e : ℕ) × serves e)
-    (rule 5 (under (λ e. headerSize kind frame + securitySize (serviceAt image e) + 1 + 16 + kindOf kind .trailer frame ≤ length frame))
-    (rule 9 (under (λ e. 0 ≤ length (text e)))
-    (rule 6 (under (λ e. length (text e) ≤ length output))
-    (rule 7 (under (λ e. rightMac (serviceAt image e) kind (maskAt image e) (keyAt image e) frame ≡ macOn kind frame))
-    (rule 8 (under (λ e. InWindow (lastAt numbers e) (windowAt image e) (numberOn (serviceAt image e) kind frame)))
-    done))))))))
+    let least : ℕ → ℕ = λ e. headerSize said frame + securitySize (serviceAt image e) + 1 + 16 + trailerSize said frame in
+    let text : ℕ → List ℕ = λ e. textOn (serviceAt image e) said frame in
+    let right : ℕ → List ℕ = λ e. rightMac (serviceAt image e) said (maskAt image e) (keyAt image e) frame in
+    rule answer.BadImage (ImageRules image)
+    (rule answer.BadMarks (Agreeing image numbers)
+    (rule answer.BadFrame (FrameRules said frame 2)
+    (rule answer.NoEntry ((e : ℕ) × serves e)
+    (rule answer.TooShort (under (λ e. least e ≤ length frame))
+    (rule answer.BadPadding (under (λ e. 0 ≤ length (text e)))
+    (rule answer.NoRoom (under (λ e. length (text e) ≤ length output))
+    (rule answer.WrongMac (under (λ e. right e ≡ macOn said frame))
+    (rule answer.OutsideWindow (under (λ e. InWindow (lastAt numbers e) (windowAt image e) (numberOn (serviceAt image e) said frame)))
+    noMore))))))))
 
 pub record Answering : Type 0 where
-  pub loading : (image numbers : List ℕ) → Octets image → Exactly (loadRules image) (loaded image numbers .answer)
-  pub sending : (image numbers : List ℕ) (kind spi : ℕ) (frame output : List ℕ) → Octets image
-      → Exactly (securingRules image numbers kind spi frame output) (secured image numbers kind spi frame output .answer)
-  pub checking : (image numbers : List ℕ) (kind : ℕ) (frame output : List ℕ) → Octets image
-      → Exactly (checkingRules image numbers kind frame output) (checked image numbers kind frame output .answer)
+  pub table : Table
+  pub loading : (image numbers : List ℕ) → Octets image → Exactly (loadRules image) (reportOf (loaded image numbers))
+  pub sending : (image numbers : List ℕ) (said : Said) (spi : ℕ) (frame output : List ℕ) → Octets image
+      → Exactly (securingRules image numbers said spi frame output) (reportOf (secured image numbers said spi frame output))
+  pub checking : (image numbers : List ℕ) (said : Said) (frame output : List ℕ) → Octets image
+      → Exactly (checkingRules image numbers said frame output) (reportOf (checked image numbers said frame output))

@@ -9,7 +9,8 @@ use lib.ListN.{length, getD}
 use Rattle.octets.specs.Lists.{octet, part}
 use Rattle.octets.specs.Numbers.{numberAt}
 use Rattle.octets.specs.Xor.{_⊕_}
-use Rattle.frame.specs.Kinds.{kindOf}
+use Rattle.link.specs.Said.{Said}
+use Rattle.promises.specs.Forms.{formOf, formSaid}
 
 -- ---- the contents
 
@@ -76,11 +77,9 @@ pub record BodyRules (image : List ℕ) (i : ℕ) : Type 0 where
   pub kind : (1 ≤ kindAt image i) × (kindAt image i ≤ 3)
   pub direction : (1 ≤ directionAt image i) × (directionAt image i ≤ 2)
   pub state : stateAt image i ≤ 2
-  pub spacecraft : spacecraftAt image i ≤ 1023
-  pub channel : channelAt image i ≤ 63
-  pub channelOfTm : kindAt image i ≡ 3 → channelAt image i ≤ 7
-  pub map : mapAt image i ≤ 63
-  pub mapOfOthers : (kindAt image i ≡ 2 → ⊥) → mapAt image i ≡ 0
+  pub spacecraft : spacecraftAt image i ≤ formOf (kindAt image i) .mostSpacecraft
+  pub channel : channelAt image i ≤ formOf (kindAt image i) .mostChannel
+  pub map : mapAt image i ≤ formOf (kindAt image i) .mostMap
   pub window : (1 ≤ windowAt image i) × (windowAt image i ≤ 1024)
   pub mask : kindAt image i ≡ 1 → octet image (place image i 15) ≡ 0
   pub mark : codeAt image i < 2 ^ 26
@@ -111,12 +110,12 @@ pub record InWindow (last window n : ℕ) : Type 0 where
 
 -- ---- the entry that a frame asks for: that SPI, operational, and of that direction, kind, spacecraft, channel and (kind 2) MAP
 
-pub record Serves (image : List ℕ) (direction kind spi : ℕ) (frame : List ℕ) (i : ℕ) : Type 0 where
+pub record Serves (image : List ℕ) (direction : ℕ) (said : Said) (spi : ℕ) (frame : List ℕ) (i : ℕ) : Type 0 where
   pub entry : i < countIn image
   pub spis : spiAt image i ≡ spi
   pub state : stateAt image i ≡ 2
   pub directions : directionAt image i ≡ direction
-  pub kinds : kindAt image i ≡ kind
-  pub spacecraft : spacecraftAt image i ≡ kindOf kind .spacecraft frame
-  pub channel : channelAt image i ≡ kindOf kind .channel frame
-  pub map : kind ≡ 2 → mapAt image i ≡ kindOf kind .map frame
+  pub kinds : kindAt image i ≡ said .kind
+  pub spacecraft : spacecraftAt image i ≡ formSaid said .spacecraft frame
+  pub channel : channelAt image i ≡ formSaid said .channel frame
+  pub map : said .kind ≡ 2 → mapAt image i ≡ formSaid said .map frame

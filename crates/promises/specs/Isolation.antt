@@ -9,6 +9,7 @@ use mathlib.Core.List.{List}
 use lib.ListN.{length}
 use Rattle.octets.specs.Lists.{Octets}
 use Rattle.link.specs.Calls.{Left, handed, secured, checked}
+use Rattle.link.specs.Said.{Said}
 use Rattle.promises.specs.Images.{wholeBodyAt, lastAt, ImageRules, Agreeing, Serves}
 use Rattle.promises.specs.Frames.{spiOn}
 
@@ -19,13 +20,13 @@ pub record Standing (image numbers : List ℕ) : Type 0 where
   pub agree : Agreeing image numbers
 
 -- the same entry for the frame, or none
-pub data SameEntry (image numbers other otherNumbers : List ℕ) (direction kind spi : ℕ) (frame : List ℕ) : Type 0 where
-  both : (i j : ℕ) → Serves image direction kind spi frame i → Serves other direction kind spi frame j
+pub data SameEntry (image numbers other otherNumbers : List ℕ) (direction : ℕ) (said : Said) (spi : ℕ) (frame : List ℕ) : Type 0 where
+  both : (i j : ℕ) → Serves image direction said spi frame i → Serves other direction said spi frame j
       → wholeBodyAt image i ≡ wholeBodyAt other j
       → lastAt numbers i ≡ lastAt otherNumbers j
-      → SameEntry image numbers other otherNumbers direction kind spi frame
-  neither : ((i : ℕ) → Serves image direction kind spi frame i → ⊥) → ((j : ℕ) → Serves other direction kind spi frame j → ⊥)
-      → SameEntry image numbers other otherNumbers direction kind spi frame
+      → SameEntry image numbers other otherNumbers direction said spi frame
+  neither : ((i : ℕ) → Serves image direction said spi frame i → ⊥) → ((j : ℕ) → Serves other direction said spi frame j → ⊥)
+      → SameEntry image numbers other otherNumbers direction said spi frame
 
 pub record SameAnswer (x y : Left) : Type 0 where
   pub answer : x .answer ≡ y .answer
@@ -34,11 +35,11 @@ pub record SameAnswer (x y : Left) : Type 0 where
   pub result : handed x ≡ handed y
 
 pub record Isolation : Type 0 where
-  pub sending : (image numbers other otherNumbers : List ℕ) (kind spi : ℕ) (frame output otherOutput : List ℕ)
+  pub sending : (image numbers other otherNumbers : List ℕ) (said : Said) (spi : ℕ) (frame output otherOutput : List ℕ)
       → Standing image numbers → Standing other otherNumbers → length output ≡ length otherOutput
-      → SameEntry image numbers other otherNumbers 1 kind spi frame
-      → SameAnswer (secured image numbers kind spi frame output) (secured other otherNumbers kind spi frame otherOutput)
-  pub checking : (image numbers other otherNumbers : List ℕ) (kind : ℕ) (frame output otherOutput : List ℕ)
+      → SameEntry image numbers other otherNumbers 1 said spi frame
+      → SameAnswer (secured image numbers said spi frame output) (secured other otherNumbers said spi frame otherOutput)
+  pub checking : (image numbers other otherNumbers : List ℕ) (said : Said) (frame output otherOutput : List ℕ)
       → Standing image numbers → Standing other otherNumbers → length output ≡ length otherOutput
-      → SameEntry image numbers other otherNumbers 2 kind (spiOn kind frame) frame
-      → SameAnswer (checked image numbers kind frame output) (checked other otherNumbers kind frame otherOutput)
+      → SameEntry image numbers other otherNumbers 2 said (spiOn said frame) frame
+      → SameAnswer (checked image numbers said frame output) (checked other otherNumbers said frame otherOutput)

@@ -12,6 +12,7 @@ use mathlib.Core.List.{List}
 use lib.ListN.{length, set, drop}
 use Rattle.octets.specs.Lists.{octet, Octets}
 use Rattle.link.specs.Calls.{Left, handed, loaded, secured, securedCut, checked, checkedCut}
+use Rattle.link.specs.Said.{Said}
 use Rattle.promises.specs.Images.{countIn, spiAt, place, serviceAt, maskAt, keyAt, codeAt, coded, lastAt, ImageRules, Agreeing}
 use Rattle.promises.specs.Frames.{spiOn, numberOn, fieldOn, textOn, comingIn, SecuredFrom}
 
@@ -43,25 +44,25 @@ pub record Loaded (image : List ℕ) (x : Left) : Type 0 where
   pub others : (i : ℕ) → countIn image ≤ i → lastAt (x .numbers) i ≡ 0
 
 -- a sending under entry e: what goes out is the secured frame of the entry's next number
-pub record Sending (image numbers : List ℕ) (kind spi : ℕ) (frame output : List ℕ) (e : ℕ) (x : Left) : Type 0 where
+pub record Sending (image numbers : List ℕ) (said : Said) (spi : ℕ) (frame output : List ℕ) (e : ℕ) (x : Left) : Type 0 where
   pub leaves : Leaves image numbers output e (lastAt numbers e + 1) x
   pub out :
-      SecuredFrom (serviceAt image e) kind spi (lastAt numbers e + 1) (maskAt image e) (keyAt image e) frame (handed x)
-  pub cut : (j : ℕ) → MarkAlone image e (lastAt numbers e / 64 + min j (x .stores)) (securedCut image numbers kind spi frame output j)
+      SecuredFrom (serviceAt image e) said spi (lastAt numbers e + 1) (maskAt image e) (keyAt image e) frame (handed x)
+  pub cut : (j : ℕ) → MarkAlone image e (lastAt numbers e / 64 + min j (x .stores)) (securedCut image numbers said spi frame output j)
 
 -- a check under entry e: the number on the frame, and what comes out is the data in clear
-pub record Checking (image numbers : List ℕ) (kind : ℕ) (frame output : List ℕ) (e : ℕ) (x : Left) : Type 0 where
-  pub leaves : Leaves image numbers output e (numberOn (serviceAt image e) kind frame) x
+pub record Checking (image numbers : List ℕ) (said : Said) (frame output : List ℕ) (e : ℕ) (x : Left) : Type 0 where
+  pub leaves : Leaves image numbers output e (numberOn (serviceAt image e) said frame) x
   pub out :
       let service = serviceAt image e in
-      handed x ≡ comingIn service (keyAt image e) (fieldOn service kind frame) (textOn service kind frame)
-  pub cut : (j : ℕ) → MarkAlone image e (lastAt numbers e / 64 + min j (x .stores)) (checkedCut image numbers kind frame output j)
+      handed x ≡ comingIn service (keyAt image e) (fieldOn service said frame) (textOn service said frame)
+  pub cut : (j : ℕ) → MarkAlone image e (lastAt numbers e / 64 + min j (x .stores)) (checkedCut image numbers said frame output j)
 
 pub record Leaving : Type 0 where
   pub loading : (image numbers : List ℕ) → Octets image → let x = loaded image numbers in x .answer ≡ 0 → Loaded image x
-  pub sending : (image numbers : List ℕ) (kind spi : ℕ) (frame output : List ℕ) (e : ℕ) → Octets image → length numbers ≡ 32
-      → e < countIn image → spiAt image e ≡ spi → let x = secured image numbers kind spi frame output in
-      x .answer ≡ 0 → Sending image numbers kind spi frame output e x
-  pub checking : (image numbers : List ℕ) (kind : ℕ) (frame output : List ℕ) (e : ℕ) → Octets image → length numbers ≡ 32
-      → e < countIn image → spiAt image e ≡ spiOn kind frame → let x = checked image numbers kind frame output in
-      x .answer ≡ 0 → Checking image numbers kind frame output e x
+  pub sending : (image numbers : List ℕ) (said : Said) (spi : ℕ) (frame output : List ℕ) (e : ℕ) → Octets image → length numbers ≡ 32
+      → e < countIn image → spiAt image e ≡ spi → let x = secured image numbers said spi frame output in
+      x .answer ≡ 0 → Sending image numbers said spi frame output e x
+  pub checking : (image numbers : List ℕ) (said : Said) (frame output : List ℕ) (e : ℕ) → Octets image → length numbers ≡ 32
+      → e < countIn image → spiAt image e ≡ spiOn said frame → let x = checked image numbers said frame output in
+      x .answer ≡ 0 → Checking image numbers said frame output e x

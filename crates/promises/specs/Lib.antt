@@ -1,5 +1,6 @@
 pub mod Answers
 pub mod Cases
+pub mod Forms
 pub mod Frames
 pub mod Images
 pub mod Isolation

@@ -1,10 +1,12 @@
 -- Demand 1: a refusal changes nothing. Whatever is handed in, a load, a sending or a check that does not answer 0 reports length 0 and 0
--- stores, and leaves the image, the numbers and the output as they were. It supposes nothing.
+-- stores, and leaves the image, the numbers and the output as they were; and cut anywhere, it leaves the image as it was. It supposes
+-- nothing.
 -- Assumes nothing.
 use Prim.Native.Nat.{ℕ}
 use mathlib.Core.Path.{_≡_}
 use mathlib.Core.List.{List, []}
-use Rattle.link.specs.Calls.{Left, loaded, secured, checked}
+use Rattle.link.specs.Calls.{Left, loaded, secured, securedCut, checked, checkedCut}
+use Rattle.link.specs.Said.{Said}
 
 pub record Untouched (image numbers output : List ℕ) (x : Left) : Type 0 where
   pub length : x .length ≡ 0
@@ -13,11 +15,19 @@ pub record Untouched (image numbers output : List ℕ) (x : Left) : Type 0 where
   pub lasts : x .numbers ≡ numbers
   pub outputs : x .output ≡ output
 
--- a load has no output
+-- a load has no output, and no store at which it could be cut
 pub record Refusals : Type 0 where
   pub loading : (image numbers : List ℕ) → let x = loaded image numbers in
       (x .answer ≡ 0 → ⊥) → Untouched image numbers [] x
-  pub sending : (image numbers : List ℕ) (kind spi : ℕ) (frame output : List ℕ) → let x = secured image numbers kind spi frame output in
+  pub sending : (image numbers : List ℕ) (said : Said) (spi : ℕ) (frame output : List ℕ)
+      → let x = secured image numbers said spi frame output in
       (x .answer ≡ 0 → ⊥) → Untouched image numbers output x
-  pub checking : (image numbers : List ℕ) (kind : ℕ) (frame output : List ℕ) → let x = checked image numbers kind frame output in
+  pub sendingCut : (image numbers : List ℕ) (said : Said) (spi : ℕ) (frame output : List ℕ) (j : ℕ)
+      → let x = secured image numbers said spi frame output in
+      (x .answer ≡ 0 → ⊥) → securedCut image numbers said spi frame output j ≡ image
+  pub checking : (image numbers : List ℕ) (said : Said) (frame output : List ℕ)
+      → let x = checked image numbers said frame output in
       (x .answer ≡ 0 → ⊥) → Untouched image numbers output x
+  pub checkingCut : (image numbers : List ℕ) (said : Said) (frame output : List ℕ) (j : ℕ)
+      → let x = checked image numbers said frame output in
+      (x .answer ≡ 0 → ⊥) → checkedCut image numbers said frame output j ≡ image

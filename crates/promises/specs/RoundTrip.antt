@@ -9,10 +9,11 @@ use mathlib.Core.Path.{_≡_}
 use mathlib.Core.List.{List}
 use lib.ListN.{length}
 use Rattle.link.specs.Calls.{Left, handed, secured, checked}
+use Rattle.link.specs.Said.{Said}
 use Rattle.octets.specs.Lists.{Octets}
 use Rattle.promises.specs.Images.{countIn, spiAt, serviceAt, kindAt, directionAt, stateAt, spacecraftAt, channelAt, mapAt}
 use Rattle.promises.specs.Images.{windowAt, maskAt, keyAt, lastAt, ImageRules, Agreeing, InWindow}
-use Rattle.promises.specs.Frames.{clearData, numberOn}
+use Rattle.promises.specs.Frames.{dataInClear, numberOn}
 
 -- entry i of the image there, against entry e of the image here
 pub record OtherEnd (here : List ℕ) (e : ℕ) (there numbers : List ℕ) (i : ℕ) : Type 0 where
@@ -36,13 +37,13 @@ pub record Released (text : List ℕ) (x : Left) : Type 0 where
   pub result : handed x ≡ text
 
 pub record RoundTrip : Type 0 where
-  pub released : (here sendNumbers : List ℕ) (kind spi : ℕ) (frame sendOutput there numbers output : List ℕ) (e i : ℕ)
+  pub released : (here sendNumbers : List ℕ) (said : Said) (spi : ℕ) (frame sendOutput there numbers output : List ℕ) (e i : ℕ)
       → Octets there
-      → let x = secured here sendNumbers kind spi frame sendOutput in
+      → let x = secured here sendNumbers said spi frame sendOutput in
       x .answer ≡ 0
       → e < countIn here
       → spiAt here e ≡ spi
       → OtherEnd here e there numbers i
-      → InWindow (lastAt numbers i) (windowAt there i) (numberOn (serviceAt here e) kind (handed x))
-      → length (clearData kind frame) ≤ length output
-      → Released (clearData kind frame) (checked there numbers kind (handed x) output)
+      → InWindow (lastAt numbers i) (windowAt there i) (numberOn (serviceAt here e) said (handed x))
+      → length (dataInClear said frame) ≤ length output
+      → Released (dataInClear said frame) (checked there numbers said (handed x) output)

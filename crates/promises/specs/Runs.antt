@@ -13,6 +13,7 @@ use lib.Dec.{eqb}
 use lib.ListN.{length}
 use Rattle.octets.specs.Lists.{octet, Octets}
 use Rattle.link.specs.Calls.{Left, handed, loaded, secured, securedCut, checked, checkedCut}
+use Rattle.link.specs.Said.{Said}
 use Rattle.promises.specs.Images.{countIn, spiAt, place, serviceAt, ImageRules}
 use Rattle.promises.specs.Frames.{spiOn, numberOn}
 
@@ -22,10 +23,10 @@ use Rattle.promises.specs.Frames.{spiOn, numberOn}
 -- its stores, and the load that then comes is handed any numbers.
 pub data Step : Type 0 where
   load : List ℕ → Step
-  send : ℕ → ℕ → List ℕ → List ℕ → Step
-  check : ℕ → List ℕ → List ℕ → Step
-  sendCut : ℕ → ℕ → List ℕ → List ℕ → ℕ → List ℕ → Step
-  checkCut : ℕ → List ℕ → List ℕ → ℕ → List ℕ → Step
+  send : Said → ℕ → List ℕ → List ℕ → Step
+  check : Said → List ℕ → List ℕ → Step
+  sendCut : Said → ℕ → List ℕ → List ℕ → ℕ → List ℕ → Step
+  checkCut : Said → List ℕ → List ℕ → ℕ → List ℕ → Step
 
 -- the image, and the numbers that the last call returned
 pub record State : Type 0 where
@@ -37,10 +38,10 @@ kept x = record { image = x .image; numbers = x .numbers }
 
 unfoldable pub after : State → Step → State
 after x (load any) = kept (loaded (x .image) any)
-after x (send kind spi frame output) = kept (secured (x .image) (x .numbers) kind spi frame output)
-after x (check kind frame output) = kept (checked (x .image) (x .numbers) kind frame output)
-after x (sendCut kind spi frame output j any) = kept (loaded (securedCut (x .image) (x .numbers) kind spi frame output j) any)
-after x (checkCut kind frame output j any) = kept (loaded (checkedCut (x .image) (x .numbers) kind frame output j) any)
+after x (send said spi frame output) = kept (secured (x .image) (x .numbers) said spi frame output)
+after x (check said frame output) = kept (checked (x .image) (x .numbers) said frame output)
+after x (sendCut said spi frame output j any) = kept (loaded (securedCut (x .image) (x .numbers) said spi frame output j) any)
+after x (checkCut said frame output j any) = kept (loaded (checkedCut (x .image) (x .numbers) said frame output j) any)
 
 unfoldable pub ran : State → List Step → State
 ran x [] = x
@@ -49,24 +50,24 @@ ran x (v ∷ vs) = ran (after x v) vs
 -- ---- what it shows of the association of entry e: a load, the number on a frame that went out, the number on a frame whose data came out
 
 pub data Shown : Type 0 where
-  loading : Shown
+  restart : Shown
   sent : ℕ → Shown
   released : ℕ → Shown
 
 -- a call that was done under the entry's SPI
-abbrev pub done : State → ℕ → ℕ → Left → Bool
-done x e spi y = eqb (y .answer) 0 && eqb spi (spiAt (x .image) e)
+abbrev pub doneUnder : State → ℕ → ℕ → Left → Bool
+doneUnder x e spi y = eqb (y .answer) 0 && eqb spi (spiAt (x .image) e)
 
 unfoldable pub shows : ℕ → State → Step → List Shown
-shows e x (load any) = loading ∷ []
-shows e x (send kind spi frame output) =
-    let y = secured (x .image) (x .numbers) kind spi frame output in
-    cond (done x e spi y) (sent (numberOn (serviceAt (x .image) e) kind (handed y)) ∷ []) []
-shows e x (check kind frame output) =
-    let y = checked (x .image) (x .numbers) kind frame output in
-    cond (done x e (spiOn kind frame) y) (released (numberOn (serviceAt (x .image) e) kind frame) ∷ []) []
-shows e x (sendCut kind spi frame output j any) = loading ∷ []
-shows e x (checkCut kind frame output j any) = loading ∷ []
+shows e x (load any) = restart ∷ []
+shows e x (send said spi frame output) =
+    let y = secured (x .image) (x .numbers) said spi frame output in
+    cond (doneUnder x e spi y) (sent (numberOn (serviceAt (x .image) e) said (handed y)) ∷ []) []
+shows e x (check said frame output) =
+    let y = checked (x .image) (x .numbers) said frame output in
+    cond (doneUnder x e (spiOn said frame) y) (released (numberOn (serviceAt (x .image) e) said frame) ∷ []) []
+shows e x (sendCut said spi frame output j any) = restart ∷ []
+shows e x (checkCut said frame output j any) = restart ∷ []
 
 unfoldable pub trace : ℕ → State → List Step → List Shown
 trace e x [] = []
@@ -77,39 +78,39 @@ trace e x (v ∷ vs) = shows e x v ++ trace e (after x v) vs
 -- after p was sent and then l loads: each number sent exceeds the one before, by at most 1 and 64 for each load between
 unfoldable pub SentAfter : ℕ → ℕ → List Shown → Type 0
 SentAfter p l [] = Unit {0}
-SentAfter p l (loading ∷ r) = SentAfter p (l + 1) r
+SentAfter p l (restart ∷ r) = SentAfter p (l + 1) r
 SentAfter p l (sent n ∷ r) = (p < n) × (n ≤ p + 1 + 64 * l) × SentAfter n 0 r
 SentAfter p l (released n ∷ r) = SentAfter p l r
 
 unfoldable pub SentRise : List Shown → Type 0
 SentRise [] = Unit {0}
-SentRise (loading ∷ r) = SentRise r
+SentRise (restart ∷ r) = SentRise r
 SentRise (sent n ∷ r) = SentAfter n 0 r
 SentRise (released n ∷ r) = SentRise r
 
 -- after p was released: each number released exceeds the one before
 unfoldable pub ReleasedAfter : ℕ → List Shown → Type 0
 ReleasedAfter p [] = Unit {0}
-ReleasedAfter p (loading ∷ r) = ReleasedAfter p r
+ReleasedAfter p (restart ∷ r) = ReleasedAfter p r
 ReleasedAfter p (sent n ∷ r) = ReleasedAfter p r
 ReleasedAfter p (released n ∷ r) = (p < n) × ReleasedAfter n r
 
 unfoldable pub ReleasedRise : List Shown → Type 0
 ReleasedRise [] = Unit {0}
-ReleasedRise (loading ∷ r) = ReleasedRise r
+ReleasedRise (restart ∷ r) = ReleasedRise r
 ReleasedRise (sent n ∷ r) = ReleasedRise r
 ReleasedRise (released n ∷ r) = ReleasedAfter n r
 
 -- the numbers sent, those released, and that no number of a list stands in it twice
 unfoldable pub sentIn : List Shown → List ℕ
 sentIn [] = []
-sentIn (loading ∷ r) = sentIn r
+sentIn (restart ∷ r) = sentIn r
 sentIn (sent n ∷ r) = n ∷ sentIn r
 sentIn (released n ∷ r) = sentIn r
 
 unfoldable pub releasedIn : List Shown → List ℕ
 releasedIn [] = []
-releasedIn (loading ∷ r) = releasedIn r
+releasedIn (restart ∷ r) = releasedIn r
 releasedIn (sent n ∷ r) = releasedIn r
 releasedIn (released n ∷ r) = n ∷ releasedIn r
 

@@ -6,7 +6,7 @@ use Prim.Native.Nat.{ℕ}
 use Rattle.cipher.specs.SubBytes.{subBytes}
 use Rattle.cipher.specs.ShiftRows.{shiftRows}
 use Rattle.cipher.specs.AddRoundKey.{addRoundKey}
-use Rattle.cipher.specs.KeyExpansion.{keyExpansion}
+use Rattle.key_schedule.specs.KeyExpansion.{keyExpansion}
 use Rattle.cipher.specs.Cipher.{rounds, cipher, aes256}
 
 pub cipher-is : (w block : List ℕ) → cipher w block ≡ addRoundKey w 14 (shiftRows (subBytes (rounds w 13 (addRoundKey w 0 block))))

@@ -1,17 +1,16 @@
--- `check` is right because the MAC that it compares with is that of the message.
+-- `check` is right because `check_under` is, under the expansion of the key.
 -- Assumes nothing.
-use mathlib.Core.Path.{_∙_, ap}
-use mathlib.Core.List.{List}
-use Prim.Native.Nat.{ℕ}
-use Rattle.octets.specs.Same.{same}
+use mathlib.Core.List.{_++_}
+use Rattle.cmac.proofs.Chaining.{check-keyed}
 use borrow.Author.Needs.{needs}
 use Rattle.cmac.proofs.check.Statement.{statement}
 use Rattle.cmac.proofs.check.Tie as tie
 
 returns : tie.Need-returns
 returns c =
-    let given = c .before .before .before .before .args in
-    c .same-block .ensures ∙ ap (λ (x : List ℕ). same x (given .mac)) (c .before .mac .ensures)
+    let keyed = c .before .before in
+    let given = keyed .before .before .before .args in
+    check-keyed (given .key) (given .head .now ++ given .body .now) (keyed .expand-key .ensures) (given .mac) (c .check-under .ensures)
 
 pub check-spec : {M : Type 1} → statement M
 check-spec =

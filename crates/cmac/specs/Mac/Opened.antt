@@ -4,8 +4,8 @@ use mathlib.Core.Path.{_≡_, refl}
 use mathlib.Core.List.{List}
 use Prim.Native.Nat.{ℕ}
 use lib.ListN.{length}
-use Rattle.cmac.specs.Mac.{blockCount, chain, cmac}
+use Rattle.cmac.specs.Mac.{blockCount, chain, cmacUnder}
 
-pub cmac-is : (key m : List ℕ) → cmac key m ≡ chain key m (blockCount (length m))
-unfolding cmac
-cmac-is key m = refl
+pub cmac-is : (w m : List ℕ) → cmacUnder w m ≡ chain w m (blockCount (length m))
+unfolding cmacUnder
+cmac-is w m = refl

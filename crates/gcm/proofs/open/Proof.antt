@@ -2,14 +2,10 @@
 -- Assumes nothing.
 use mathlib.Core.Path.{_≡_, sym, ap, _∙_}
 use mathlib.Core.Bool.{Bool, not, Bool·not-not}
-use mathlib.Core.List.{List}
-use Prim.Native.Nat.{ℕ}
-use native.Mathlib.Omega.{arith}
-use Rattle.gcm.specs.Calls.{call}
-use Rattle.gcm.specs.Decryption.Opened.{plaintext-is}
-use Rattle.gcm.specs.Output.{written}
-use Rattle.gcm.specs.declared.Outcome.the-variants as outcome
-use Rattle.gcm.proofs.Laws.{within, opened-too-long, opened-wrong, opened-no-room, opened-done}
+use Rattle.octets.specs.Same.{same}
+use Rattle.gcm.specs.Encryption.{tag}
+use Rattle.gcm.proofs.Laws.{opened-too-long, opened-wrong, opened-no-room}
+use Rattle.gcm.proofs.Made.{open-made, tag-keyed}
 use borrow.Author.Needs.{needs}
 use Rattle.gcm.proofs.open.Statement.{statement}
 use Rattle.gcm.proofs.open.Tie as tie
@@ -24,12 +20,15 @@ returns c =
     (opened-too-long (given .key) (given .iv) (given .additional .now) (given .ciphertext .now) (given .tag) (given .out .now)
     (sym (c .before .too-long .ensures) ∙ c .if1 .taken))
 
-tag-is-requires : tie.Need-tag-is-requires
-tag-is-requires c κs =
-    let allowed = c .before .before in
-    let given = allowed .before .before .before .before .before .args in
-    let fit = within (given .additional .now) (given .ciphertext .now) (sym (allowed .before .too-long .ensures) ∙ allowed .if1 .left) in
-    (omega (arith, fit), omega (arith, fit))
+-- the comparison, under the key
+tagged : (c : tie.After-tag-is)
+    → let given = c .before .before .before .before .before .before .before .before .args in
+    c .tag-is .result ≡ same (tag (given .key) (given .iv) (given .additional .now) (given .ciphertext .now)) (given .tag)
+tagged c =
+    let keyed = c .before .before in
+    let given = keyed .before .before .before .before .before .before .args in
+    tag-keyed (given .key) (keyed .expand-key .result) (given .iv) (keyed .expand-key .ensures) (given .additional .now)
+    (given .ciphertext .now) (given .tag) _ (c .tag-is .ensures)
 
 returns-2 : tie.Need-returns-2
 returns-2 c =
@@ -40,7 +39,7 @@ returns-2 c =
     sym
     (opened-wrong (given .key) (given .iv) (given .additional .now) (given .ciphertext .now) (given .tag) (given .out .now)
     (sym (allowed .before .too-long .ensures) ∙ allowed .if1 .left)
-    (flipped _ _ (rw (compared .tag-is .ensures (given .key) (keyed .expand-key .ensures)) at (c .if2 .taken))))
+    (flipped _ _ (rw (tagged compared) at (c .if2 .taken))))
 
 returns-3 : tie.Need-returns-3
 returns-3 c =
@@ -52,7 +51,7 @@ returns-3 c =
     sym
     (opened-no-room (given .key) (given .iv) (given .additional .now) (given .ciphertext .now) (given .tag) (given .out .now)
     (sym (allowed .before .too-long .ensures) ∙ allowed .if1 .left)
-    (flipped _ _ (rw (compared .tag-is .ensures (given .key) (keyed .expand-key .ensures)) at (right .if2 .left)))
+    (flipped _ _ (rw (tagged compared) at (right .if2 .left)))
     (c .if3 .taken))
 
 returns-4 : tie.Need-returns-4
@@ -64,19 +63,12 @@ returns-4 c =
     let keyed = compared .before .before in
     let allowed = keyed .before in
     let given = allowed .before .before .before .before .before .args in
-    let key = given .key in
-    let iv = given .iv in
-    let text = given .ciphertext .now in
-    let old = given .out .now in
-    ap (call outcome.Done)
-    (crypted .crypt .ensures key (keyed .expand-key .ensures) ∙ ap (λ (l : List ℕ). written l old) (sym (plaintext-is key iv text)))
-    ∙ sym
-    (opened-done key iv (given .additional .now) text (given .tag) old (sym (allowed .before .too-long .ensures) ∙ allowed .if1 .left)
-    (flipped _ _ (rw (compared .tag-is .ensures key (keyed .expand-key .ensures)) at (right .if2 .left)))
-    (room .if3 .left))
+    open-made (keyed .expand-key .result) (given .iv) (given .ciphertext .now) (given .out .now) _ (room .if3 .left) (crypted .crypt .ensures)
+    (given .key) (given .additional .now) (given .tag) (keyed .expand-key .ensures)
+    (sym (allowed .before .too-long .ensures) ∙ allowed .if1 .left) (flipped _ _ (rw (tagged compared) at (right .if2 .left)))
 
 pub open-spec : {M : Type 1} → statement M
 open-spec =
     tie.close
-    (tie.spec (λ c κs. search needs) returns (λ c κs. search needs) tag-is-requires returns-2 returns-3
+    (tie.spec (λ c κs. search needs) returns (λ c κs. search needs) (λ c κs. search needs) returns-2 returns-3
     (λ c κs. search needs) (λ c. search needs) returns-4)

@@ -3,11 +3,11 @@
 use mathlib.Core.Path.{_≡_, refl}
 use mathlib.Core.List.{List}
 use Prim.Native.Nat.{ℕ}
-use Rattle.gcm.specs.Increment.{inc32}
-use Rattle.gcm.specs.Gctr.{gctr}
+use Rattle.gctr.specs.Increment.{inc32}
+use Rattle.gctr.specs.Gctr.{gctr}
 use Rattle.gcm.specs.Encryption.{j0}
-use Rattle.gcm.specs.Decryption.{plaintext}
+use Rattle.gcm.specs.Decryption.{plaintextUnder}
 
-pub plaintext-is : (key iv c : List ℕ) → plaintext key iv c ≡ gctr key (inc32 (j0 iv)) c
-unfolding plaintext
-plaintext-is key iv c = refl
+pub plaintext-is : (w iv c : List ℕ) → plaintextUnder w iv c ≡ gctr w (inc32 (j0 iv)) c
+unfolding plaintextUnder
+plaintext-is w iv c = refl

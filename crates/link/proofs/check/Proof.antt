@@ -1,70 +1,83 @@
--- `check` is right because an image that breaks a rule is answered by 1, numbers that do not agree by 2, a number that names no kind by 3,
--- and the rest by the kind.
+-- `check` is right because a frame that is not admitted is refused as its first test says, and another is checked under its entry.
 -- Assumes nothing.
-use mathlib.Core.Path.{_≡_, sym, ap, _∙_}
+use mathlib.Core.Path.{ap, _∙_, subst}
 use mathlib.Core.Bool.{true}
-use Rattle.frame.specs.Kinds.{kindBehind}
-use Rattle.frame.specs.Rules.{obeys}
-use Rattle.frame.specs.declared.kinds.Named.{Named}
-use Rattle.association.specs.Image.{validImage}
-use Rattle.association.specs.Numbers.{agrees}
-use Rattle.link.specs.Calls.{leaving}
-use Rattle.link.specs.declared.answers.Outcome.{Outcome}
-use Rattle.link.proofs.CallOutcomes.{checked-bad-image, checked-bad-marks, checked-bad-frame}
-use Rattle.link.proofs.Standings.{broken, disagreeing, standing-well}
+use Prim.Native.Nat.{ℕ}
+use lib.ListN.{length}
+use Rattle.kinds.specs.Kinds.{kindBehind}
+use Rattle.kinds.specs.declared.kinds.Named.{Named}
+use Rattle.protection.specs.Protection.{spiIn}
+use Rattle.link.specs.Calls.{left, receiving, wanted, checkingWants, comparison, checkingReply, checkedAs, checked}
+use Rattle.link.specs.Replies.{Reply}
+use Rattle.link.specs.Said.{saying}
+use Rattle.link.specs.Steps.{Admitted}
+use Rattle.link.specs.declared.admission.Admission.{Admission}
+use Rattle.link.proofs.Carried.{carried-refusal}
+use Rattle.link.proofs.Judging.{admitted-obeys, checking-refused, checking-under}
 use borrow.Author.Needs.{needs}
 use Rattle.link.proofs.check.Statement.{statement}
 use Rattle.link.proofs.check.Tie as tie
 
-abbrev start : tie.After-kind-of → tie.Start
-start c = c .before .before .before .before .before .before
+abbrev start : tie.After-admit → tie.Start
+start c = c .before .before .before .before .before .before .before
 
--- past 1 and 2
-well : (c : tie.After-enum-told3) → let g = start (c .before .before) .args in
-    (validImage (g .image .now) ≡ true) × (agrees (g .image .now) (g .numbers .last) ≡ true)
-well c =
-    let d = c .before .before in
-    let g = start d .args in
-    standing-well (g .image .now) (g .numbers .last) (sym (d .before .test-standing .ensures) ∙ c .enum-told3 .given .1)
+abbrev reply : tie.After-admit → Reply
+reply c =
+    let g = start c .args in
+    let right = comparison (g .image .now) (g .numbers .last) (saying (g .kind)) (g .frame .now) in
+    checkingReply right (g .image .now) (g .numbers .last) (saying (g .kind)) (g .frame .now) (length (g .output .now))
 
-check-kind-requires : tie.Need-check-kind-requires
-check-kind-requires c κs =
-    let w = well (c .before .before .before .before .before) in
-    let d = c .before .before .before .before .before .before .before in
-    (w .0, w .1, ap kindBehind (sym (d .kind-of .ensures) ∙ c .before .before .before .named .given .1))
+abbrev told : tie.After-admit → Admission → Type 0
+told c a =
+    let g = start c .args in
+    let said = saying (g .kind) in
+    Admitted a (g .image .now) (g .numbers .last) (checkingWants said (g .frame .now)) said true (g .frame .now)
+
+-- the SPI that was asked for is the one on the frame
+admitted : (c : tie.After-admit) → told c (c .admit .result)
+admitted c =
+    let g = start c .args in
+    let said = saying (g .kind) in
+    let on = c .before .before in
+    subst
+    (λ (x : ℕ). Admitted (c .admit .result) (g .image .now) (g .numbers .last) (wanted x receiving said (g .frame .now)) said true (g .frame .now))
+    (on .spi-on .ensures ∙ ap (λ (n : Named). spiIn (kindBehind n) (g .frame .now)) (on .before .kind-of .ensures)) (c .admit .ensures)
 
 returns : tie.Need-returns
+unfolding checked checkedAs
 returns c =
-    let d = c .before .before .before in
+    let hit = c .before .before in
+    let d = hit .before .before in
     let g = start d .args in
-    let bad = broken (g .image .now) (g .numbers .last) (sym (d .before .test-standing .ensures) ∙ c .before .enum-told .given .1) in
-    ap (λ (r : Outcome). leaving r (g .image .now) (g .output .now)) (c .refused .ensures)
-    ∙ sym (checked-bad-image (g .image .now) (g .numbers .last) (g .kind) (g .frame .now) (g .output .now) bad)
+    carried-refusal (reply d) (g .image .now) (g .output .now) _ (g .numbers) _
+    (checking-refused (g .image .now) (g .numbers .last) (saying (g .kind)) (g .frame .now) (length (g .output .now)) _
+    (subst (told d) (hit .admission .given .1) (admitted d)))
+    (c .refused .ensures)
+
+check-under-requires : tie.Need-check-under-requires
+check-under-requires c κs =
+    let hit = c .before .before .before in
+    let d = hit .before .before in
+    let g = start d .args in
+    let said = saying (g .kind) in
+    admitted-obeys (g .image .now) (g .numbers .last) (checkingWants said (g .frame .now)) said (g .frame .now) true _ _
+    (subst (told d) (hit .admission2 .given .1) (admitted d))
 
 returns-2 : tie.Need-returns-2
+unfolding checked checkedAs
 returns-2 c =
-    let d = c .before .before .before in
+    let went = c .before .before .before .before in
+    let hit = went .before .before .before .before in
+    let d = hit .before .before in
     let g = start d .args in
-    let w = disagreeing (g .image .now) (g .numbers .last) (sym (d .before .test-standing .ensures) ∙ c .before .enum-told2 .given .1) in
-    ap (λ (r : Outcome). leaving r (g .image .now) (g .output .now)) (c .refused2 .ensures)
-    ∙ sym (checked-bad-marks (g .image .now) (g .numbers .last) (g .kind) (g .frame .now) (g .output .now) (w .0) (w .1))
-
-returns-4 : tie.Need-returns-4
-unfolding obeys
-returns-4 c =
-    let w = well (c .before .before .before) in
-    let d = c .before .before .before .before .before in
-    let g = start d .args in
-    let none = sym (d .kind-of .ensures) ∙ c .before .enum-told4 .given .1 in
-    ap (λ (r : Outcome). leaving r (g .image .now) (g .output .now)) (c .refused3 .ensures)
-    ∙ sym
-    (checked-bad-frame (g .image .now) (g .numbers .last) (g .kind) (g .frame .now) (g .output .now) (w .0) (w .1)
-    (ap (λ (x : Named). obeys (kindBehind x) (g .frame .now) true) none))
+    went .check-under .ensures
+    ∙ ap (λ (q : Reply). left q (g .image .now) (g .numbers .last) (g .output .now))
+    (checking-under (g .image .now) (g .numbers .last) (saying (g .kind)) (g .frame .now) (length (g .output .now)) _ _
+    (subst (told d) (hit .admission2 .given .1) (admitted d)))
 
 pub check-spec : {M : Type 1} → statement M
 check-spec =
     tie.close
-    (tie.spec (λ c κs. search needs) (λ c κs. search needs) (λ c. search needs) (λ c κs. search needs) (λ c. search needs)
-    (λ c κs. search needs) (λ c. search needs) (λ c. search needs) check-kind-requires (λ c. search needs) (λ c κs. search needs)
-    (λ c. search needs) returns (λ c. search needs) returns-2 (λ c. search needs) (λ c. search needs) (λ c. search needs)
-    (λ c. search needs) returns-4)
+    (tie.spec (λ c κs. search needs) (λ c κs. search needs) (λ c κs. search needs) (λ c. search needs) (λ c κs.
+    search needs) (λ c. search needs) check-under-requires (λ c. search needs) returns (λ c. search needs) (λ c.
+    search needs) returns-2)

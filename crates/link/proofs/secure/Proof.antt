@@ -1,70 +1,68 @@
--- `secure` is right because an image that breaks a rule is answered by 1, numbers that do not agree by 2, a number that names no kind by 3,
--- and the rest by the kind.
+-- `secure` is right because a frame that is not admitted is refused as its first test says, and another is secured under its entry.
 -- Assumes nothing.
-use mathlib.Core.Path.{_≡_, sym, ap, _∙_}
-use mathlib.Core.Bool.{true, false}
-use Rattle.frame.specs.Kinds.{kindBehind}
-use Rattle.frame.specs.Rules.{obeys}
-use Rattle.frame.specs.declared.kinds.Named.{Named}
-use Rattle.association.specs.Image.{validImage}
-use Rattle.association.specs.Numbers.{agrees}
-use Rattle.link.specs.Calls.{leaving}
-use Rattle.link.specs.declared.answers.Outcome.{Outcome}
-use Rattle.link.proofs.CallOutcomes.{secured-bad-image, secured-bad-marks, secured-bad-frame}
-use Rattle.link.proofs.Standings.{broken, disagreeing, standing-well}
+use mathlib.Core.Path.{ap, _∙_, subst}
+use mathlib.Core.Bool.{false}
+use lib.ListN.{length}
+use Rattle.link.specs.Calls.{left, securingWants, securingReply, secured}
+use Rattle.link.specs.Replies.{Reply}
+use Rattle.link.specs.Said.{saying}
+use Rattle.link.specs.Steps.{Admitted}
+use Rattle.link.specs.declared.admission.Admission.{Admission}
+use Rattle.link.proofs.Carried.{carried-refusal}
+use Rattle.link.proofs.Judging.{admitted-obeys, securing-refused, securing-under}
 use borrow.Author.Needs.{needs}
 use Rattle.link.proofs.secure.Statement.{statement}
 use Rattle.link.proofs.secure.Tie as tie
 
-abbrev start : tie.After-kind-of → tie.Start
+abbrev start : tie.After-admit → tie.Start
 start c = c .before .before .before .before .before .before
 
--- past 1 and 2
-well : (c : tie.After-enum-told3) → let g = start (c .before .before) .args in
-    (validImage (g .image .now) ≡ true) × (agrees (g .image .now) (g .numbers .last) ≡ true)
-well c =
-    let d = c .before .before in
-    let g = start d .args in
-    standing-well (g .image .now) (g .numbers .last) (sym (d .before .test-standing .ensures) ∙ c .enum-told3 .given .1)
+abbrev reply : tie.After-admit → Reply
+reply c =
+    let g = start c .args in
+    securingReply (g .image .now) (g .numbers .last) (saying (g .kind)) (g .spi) (g .frame .now) (length (g .output .now))
 
-secure-kind-requires : tie.Need-secure-kind-requires
-secure-kind-requires c κs =
-    let w = well (c .before .before .before .before .before) in
-    let d = c .before .before .before .before .before .before .before in
-    (w .0, w .1, ap kindBehind (sym (d .kind-of .ensures) ∙ c .before .before .before .named .given .1))
+abbrev told : tie.After-admit → Admission → Type 0
+told c a =
+    let g = start c .args in
+    let said = saying (g .kind) in
+    Admitted a (g .image .now) (g .numbers .last) (securingWants said (g .spi) (g .frame .now)) said false (g .frame .now)
 
 returns : tie.Need-returns
+unfolding secured
 returns c =
-    let d = c .before .before .before in
+    let hit = c .before .before in
+    let d = hit .before .before in
     let g = start d .args in
-    let bad = broken (g .image .now) (g .numbers .last) (sym (d .before .test-standing .ensures) ∙ c .before .enum-told .given .1) in
-    ap (λ (r : Outcome). leaving r (g .image .now) (g .output .now)) (c .refused .ensures)
-    ∙ sym (secured-bad-image (g .image .now) (g .numbers .last) (g .kind) (g .spi) (g .frame .now) (g .output .now) bad)
+    carried-refusal (reply d) (g .image .now) (g .output .now) _ (g .numbers) _
+    (securing-refused (g .image .now) (g .numbers .last) (saying (g .kind)) (g .spi) (g .frame .now) (length (g .output .now)) _
+    (subst (told d) (hit .admission .given .1) (d .admit .ensures)))
+    (c .refused .ensures)
+
+secure-under-requires : tie.Need-secure-under-requires
+secure-under-requires c κs =
+    let hit = c .before .before .before in
+    let d = hit .before .before in
+    let g = start d .args in
+    let said = saying (g .kind) in
+    admitted-obeys (g .image .now) (g .numbers .last) (securingWants said (g .spi) (g .frame .now)) said (g .frame .now) false _ _
+    (subst (told d) (hit .admission2 .given .1) (d .admit .ensures))
 
 returns-2 : tie.Need-returns-2
+unfolding secured
 returns-2 c =
-    let d = c .before .before .before in
+    let went = c .before .before .before .before in
+    let hit = went .before .before .before .before in
+    let d = hit .before .before in
     let g = start d .args in
-    let w = disagreeing (g .image .now) (g .numbers .last) (sym (d .before .test-standing .ensures) ∙ c .before .enum-told2 .given .1) in
-    ap (λ (r : Outcome). leaving r (g .image .now) (g .output .now)) (c .refused2 .ensures)
-    ∙ sym (secured-bad-marks (g .image .now) (g .numbers .last) (g .kind) (g .spi) (g .frame .now) (g .output .now) (w .0) (w .1))
-
-returns-4 : tie.Need-returns-4
-unfolding obeys
-returns-4 c =
-    let w = well (c .before .before .before) in
-    let d = c .before .before .before .before .before in
-    let g = start d .args in
-    let none = sym (d .kind-of .ensures) ∙ c .before .enum-told4 .given .1 in
-    ap (λ (r : Outcome). leaving r (g .image .now) (g .output .now)) (c .refused3 .ensures)
-    ∙ sym
-    (secured-bad-frame (g .image .now) (g .numbers .last) (g .kind) (g .spi) (g .frame .now) (g .output .now) (w .0) (w .1)
-    (ap (λ (x : Named). obeys (kindBehind x) (g .frame .now) false) none))
+    went .secure-under .ensures
+    ∙ ap (λ (q : Reply). left q (g .image .now) (g .numbers .last) (g .output .now))
+    (securing-under (g .image .now) (g .numbers .last) (saying (g .kind)) (g .spi) (g .frame .now) (length (g .output .now)) _ _
+    (subst (told d) (hit .admission2 .given .1) (d .admit .ensures)))
 
 pub secure-spec : {M : Type 1} → statement M
 secure-spec =
     tie.close
-    (tie.spec (λ c κs. search needs) (λ c κs. search needs) (λ c. search needs) (λ c κs. search needs) (λ c. search needs)
-    (λ c κs. search needs) (λ c. search needs) (λ c. search needs) secure-kind-requires (λ c. search needs) (λ c κs. search needs)
-    (λ c. search needs) returns (λ c. search needs) returns-2 (λ c. search needs) (λ c. search needs) (λ c. search needs)
-    (λ c. search needs) returns-4)
+    (tie.spec (λ c κs. search needs) (λ c κs. search needs) (λ c. search needs) (λ c κs. search needs) (λ c.
+    search needs) secure-under-requires (λ c. search needs) returns (λ c. search needs) (λ c. search needs)
+    returns-2)

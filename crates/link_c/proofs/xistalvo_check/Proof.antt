@@ -3,6 +3,7 @@
 use mathlib.Core.List.{List}
 use Prim.Native.Nat.{ℕ}
 use Rattle.link.specs.Calls.{checked}
+use Rattle.link.specs.Said.{saying}
 use Rattle.link_c.specs.Interface.{checkCall}
 use Rattle.link_c.proofs.Returning.{returned, miscounted}
 use borrow.Author.Needs.{needs}
@@ -13,7 +14,7 @@ returns : tie.Need-returns
 unfolding checkCall
 returns c =
     let g = c .before .before .before .before .before .before .before .args in
-    miscounted (λ (n : List ℕ). checked (g .image .now) n (g .kind) (g .frame .now) (g .output .now))
+    miscounted (λ (n : List ℕ). checked (g .image .now) n (saying (g .kind)) (g .frame .now) (g .output .now))
     (g .image .now) (g .numbers .now) (g .output .now)
     (c .before .before .if1 .taken)
     (c .refuse-count .ensures)
@@ -24,7 +25,7 @@ returns-2 c =
     let at-check = c .before .before .before .before .before .before .before .before .before in
     let at-else = at-check .before .before .before .before .before in
     let g = at-else .before .before .before .before .before .args in
-    returned (λ (n : List ℕ). checked (g .image .now) n (g .kind) (g .frame .now) (g .output .now))
+    returned (λ (n : List ℕ). checked (g .image .now) n (saying (g .kind)) (g .frame .now) (g .output .now))
     (g .image .now) (g .numbers .now) (g .output .now)
     (at-check .check .result)
     (at-else .if1 .left)

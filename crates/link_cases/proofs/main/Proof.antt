@@ -1,4 +1,4 @@
--- `main` is safe because the size of the image stays within its room, and ends because its count of lines has a bound.
+-- `main` is safe and ends because its count of lines has a bound.
 -- Assumes nothing.
 use Prim.Native.Nat.{_-_, _≤_}
 use borrow.Author.Needs.{needs}
@@ -6,7 +6,7 @@ use Rattle.link_cases.proofs.main.Statement.{statement}
 use Rattle.link_cases.proofs.main.Tie as tie
 
 abbrev Inv-loop : tie.InvT-loop
-Inv-loop state₀ n₀ state n = (state .size ≤ 2048) × (n ≤ 65536)
+Inv-loop state₀ n₀ state n = n ≤ 65536
 
 abbrev μ-loop : tie.MeasureT-loop
 μ-loop state₀ n₀ state n = 65536 - n

@@ -4,9 +4,9 @@ use mathlib.Core.Path.{_≡_}
 use Prim.Native.Nat.{_-_, _≤_}
 use borrow.Author.Needs.{needs}
 use native.Mathlib.Omega.{arith}
-use Rattle.association.specs.Image.{countOf}
+use Rattle.image.specs.Image.{countOf}
 use Rattle.association.proofs.Loading.{Loading, loading-none, loading-more, loading-all}
-use Rattle.association.proofs.ValidImages.{valid, mark-small}
+use Rattle.image.proofs.ValidImages.{valid, mark-small}
 use Rattle.association.proofs.numbers.loaded_numbers.Statement.{statement}
 use Rattle.association.proofs.numbers.loaded_numbers.Tie as tie
 

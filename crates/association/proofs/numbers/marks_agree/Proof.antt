@@ -1,6 +1,6 @@
 -- `marks_agree` is right because each turn joins the test of one entry more.
 -- Assumes nothing.
-use Rattle.association.specs.Image.{countOf}
+use Rattle.image.specs.Image.{countOf}
 use mathlib.Core.Path.{_≡_, refl}
 use Prim.Native.Nat.{_-_, _/_, _≤_}
 use borrow.Author.Needs.{needs}
@@ -8,7 +8,8 @@ use native.Mathlib.Omega.{arith}
 use native.Mathlib.Numerals.{add-one}
 use lib.Dec.{eqb}
 use Rattle.octets.specs.Lists.{all}
-use Rattle.association.specs.Numbers.{numberOf, markIn, agrees}
+use Rattle.image.specs.Image.{markIn}
+use Rattle.association.specs.Numbers.{numberOf, agrees}
 use Rattle.association.proofs.numbers.marks_agree.Statement.{statement}
 use Rattle.association.proofs.numbers.marks_agree.Tie as tie
 
@@ -24,7 +25,9 @@ loop-holds c = (search needs, refl)
 
 loop-again : tie.Need-loop-again Inv-loop μ-loop
 unfolding all
-loop-again c = (search needs, rw add-one (cc))
+loop-again c =
+    let at-loop = c .before .before .before .loop in
+    (search needs, rw (c .agrees-at .ensures, c .before .of .ensures, at-loop .inv .1, add-one))
 
 returns : tie.Need-returns Inv-loop μ-loop
 unfolding agrees

@@ -1,28 +1,14 @@
 -- `find` is right because a turn that goes on has passed an entry that does not match, so what is left to find is found behind it.
 -- Assumes nothing.
 use mathlib.Core.Path.{_≡_, sym, _∙_}
-use Prim.Native.Nat.{ℕ, suc, _+_, _-_, _≤_, _<_}
+use Prim.Native.Nat.{_-_, _≤_}
 use borrow.Author.Needs.{needs}
 use native.Mathlib.Omega.{arith}
-use mathlib.Core.Bool.{Bool, true, false}
-use Rattle.association.specs.Image.{countOf}
+use Rattle.image.specs.Image.{countOf}
 use Rattle.association.specs.Search.{matches, firstFrom, entryFor}
-use Rattle.association.specs.declared.search.Found.the-variants as found
+use Rattle.association.proofs.Finding.{first-here, first-next, first-none}
 use Rattle.association.proofs.search.find.Statement.{statement}
 use Rattle.association.proofs.search.find.Tie as tie
-
-module _ (test : ℕ → Bool) (count i : ℕ) where
-  first-next : i < count → test i ≡ false → firstFrom i (count - i) test ≡ firstFrom (i + 1) (count - (i + 1)) test
-  unfolding firstFrom
-  first-next h e = let left : count - i ≡ suc (count - (i + 1)) = omega arith in rw left (simp e)
-
-  first-here : i < count → test i ≡ true → firstFrom i (count - i) test ≡ found.At i
-  unfolding firstFrom
-  first-here h e = let left : count - i ≡ suc (count - (i + 1)) = omega arith in rw left (simp e)
-
-  first-none : count ≤ i → firstFrom i (count - i) test ≡ found.Nothing
-  unfolding firstFrom
-  first-none h = let left : count - i ≡ 0 = omega arith in rw left
 
 abbrev Inv-loop : tie.InvT-loop
 Inv-loop image wanted count i₀ i = (i ≤ count) × (entryFor image wanted ≡ firstFrom i (count - i) (matches image wanted))

@@ -5,9 +5,7 @@ use Rattle.association.proofs.search.serves_channel.Statement.{statemen
 use Rattle.association.proofs.search.serves_channel.Tie as tie
 
 returns : tie.Need-returns
-returns c = cc
+returns c = rw (c .channel-of .ensures)
 
 pub serves-channel-spec : {M : Type 1} → statement M
-serves-channel-spec =
-    tie.close
-    (tie.spec (λ c κs. search needs) returns)
+serves-channel-spec = tie.close (tie.spec (λ c κs. search needs) returns)

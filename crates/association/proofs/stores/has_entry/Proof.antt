@@ -5,9 +5,7 @@ use Rattle.association.proofs.stores.has_entry.Statement.{statement}
 use Rattle.association.proofs.stores.has_entry.Tie as tie
 
 returns : tie.Need-returns
-returns c = cc
+returns c = rw (c .count-of .ensures, c .before .laid-out .ensures)
 
 pub has-entry-spec : {M : Type 1} → statement M
-has-entry-spec =
-    tie.close
-    (tie.spec (λ c κs. search needs) (λ c κs. search needs) returns)
+has-entry-spec = tie.close (tie.spec (λ c κs. search needs) (λ c κs. search needs) returns)

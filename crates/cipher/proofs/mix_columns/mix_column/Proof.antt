@@ -1,8 +1,8 @@
 -- `mix_column` is right because it is the product by a(x), written out: {01} times b is b, {02} times b is `xtime b`, and {03} times b is their sum.
 -- Assumes nothing.
 use Rattle.octets.specs.Lists.{tab}
-use Rattle.cipher.specs.Field.{_⊗_}
-use Rattle.cipher.proofs.Field.{mul-one, mul-two, mul-three}
+use Rattle.substitution.specs.Field.{_⊗_}
+use Rattle.substitution.proofs.Products.{mul-one, mul-two, mul-three}
 use borrow.Author.Needs.{needs}
 use Rattle.cipher.proofs.mix_columns.mix_column.Statement.{statement}
 use Rattle.cipher.proofs.mix_columns.mix_column.Tie as tie

@@ -1,7 +1,7 @@
 -- `times_x` is right because each arm is that of `xtime`, by the test that led to it.
 -- Assumes nothing.
 use borrow.Author.Tests.{lt-ltb, le-ltb}
-use Rattle.cipher.specs.Field.{xtime}
+use Rattle.substitution.specs.Field.{xtime}
 use borrow.Author.Needs.{needs}
 use Rattle.cipher.proofs.mix_columns.times_x.Statement.{statement}
 use Rattle.cipher.proofs.mix_columns.times_x.Tie as tie

@@ -5,7 +5,8 @@ use Prim.Native.Nat.{ℕ, _-_}
 use Rattle.octets.specs.Lists.{octet}
 use Rattle.octets.proofs.Rules.{Filled, filled-none, filled-more, filled-all}
 use Rattle.cipher.specs.State.{at, cell}
-use Rattle.cipher.specs.SubBytes.{sbox, subBytes}
+use Rattle.substitution.specs.Sbox.{sbox}
+use Rattle.cipher.specs.SubBytes.{subBytes}
 use Rattle.cipher.proofs.Cells.{cell-at}
 use borrow.Author.Needs.{needs}
 use Rattle.cipher.proofs.sub_bytes.sub_bytes.Statement.{statement}
@@ -21,7 +22,12 @@ loop-holds : tie.Need-loop-holds Inv-loop μ-loop
 loop-holds c = filled-none refl
 
 loop-again : tie.Need-loop-again Inv-loop μ-loop
-loop-again c = filled-more (c .before .loop-test .taken) (c .substituted .ensures ∙ ap (λ (k : ℕ). sbox (octet (c .before .before .before .args .t2) k)) (cell-at (c .before .before .loop .i))) (c .before .before .loop .inv)
+loop-again c =
+    let at-loop = c .before .before .loop in
+    filled-more (c .before .loop-test .taken)
+    (c .substituted .ensures
+    ∙ ap (λ (k : ℕ). sbox (octet (c .before .before .before .args .t2) k)) (cell-at (at-loop .i)))
+    (at-loop .inv)
 
 returns : tie.Need-returns Inv-loop μ-loop
 unfolding subBytes

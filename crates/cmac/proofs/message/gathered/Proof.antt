@@ -19,7 +19,7 @@ loop-holds : tie.Need-loop-holds Inv-loop μ-loop
 loop-holds c = filled-none refl
 
 loop-again : tie.Need-loop-again Inv-loop μ-loop
-loop-again c = filled-more (c .before .loop-test .taken) (c .octet-at .ensures) (c .before .before .loop .inv)
+loop-again c = filled-more (c .before .loop-test .taken) (c .message-octet .ensures) (c .before .before .loop .inv)
 
 returns : tie.Need-returns Inv-loop μ-loop
 returns c = filled-all (c .loop-test .left) (c .before .loop .inv)

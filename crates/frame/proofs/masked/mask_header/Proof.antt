@@ -6,10 +6,11 @@ use Prim.Native.Nat.{_-_, min, _≤_}
 use native.Mathlib.Nat.{min-le-right}
 use native.Mathlib.Omega.{arith}
 use lib.ListN.{length, take, drop, length-set}
-use Rattle.frame.specs.Kinds.{kindIs}
+use Rattle.octets.proofs.Filling.{front-more}
+use Rattle.kinds.specs.Kinds.{kindIs}
 use Rattle.frame.specs.Masked.{masked}
 use Rattle.frame.proofs.Masking.{length-masked}
-use Rattle.frame.proofs.Fronting.{front-more, with-room, without-room, refused, told}
+use Rattle.frame.proofs.Fronting.{with-room, without-room, refused, told}
 use borrow.Author.Needs.{needs}
 use Rattle.frame.proofs.masked.mask_header.Statement.{statement}
 use Rattle.frame.proofs.masked.mask_header.Tie as tie

@@ -1,7 +1,7 @@
 -- `secured_parts` is right because each of its numbers is one that the definition names, and a header is short, so no sum wraps.
 -- Assumes nothing.
 use native.Mathlib.Omega.{arith}
-use Rattle.frame.proofs.Sizes.{header-short}
+use Rattle.kinds.proofs.Sizes.{header-short}
 use borrow.Author.Needs.{needs}
 use Rattle.frame.proofs.parts.secured_parts.Statement.{statement}
 use Rattle.frame.proofs.parts.secured_parts.Tie as tie

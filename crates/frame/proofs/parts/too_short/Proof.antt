@@ -2,7 +2,7 @@
 -- Assumes nothing.
 use Prim.Native.Nat.{_<_}
 use native.Mathlib.Omega.{arith}
-use Rattle.frame.proofs.Sizes.{header-short, trailer-short}
+use Rattle.kinds.proofs.Sizes.{header-short, trailer-short}
 use borrow.Author.Needs.{needs}
 use Rattle.frame.proofs.parts.too_short.Statement.{statement}
 use Rattle.frame.proofs.parts.too_short.Tie as tie

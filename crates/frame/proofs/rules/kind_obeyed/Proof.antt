@@ -1,11 +1,17 @@
 -- `kind_obeyed` is right because it joins the four tests that the definition joins, and header and trailer are short, so no sum wraps.
 -- Assumes nothing.
+use Prim.Native.Nat.{_<_}
+use mathlib.Core.Bool.{Bool, true, false}
 use native.Mathlib.Omega.{arith}
-use Rattle.frame.specs.Rules.{obeys}
-use Rattle.frame.proofs.Sizes.{header-short, trailer-short, least-short}
+use Rattle.kinds.proofs.Sizes.{header-short, trailer-short}
+use Rattle.frame.specs.Rules.{least, obeys}
 use borrow.Author.Needs.{needs}
 use Rattle.frame.proofs.rules.kind_obeyed.Statement.{statement}
 use Rattle.frame.proofs.rules.kind_obeyed.Tie as tie
+
+least-short : (secured : Bool) → least secured < 256
+least-short true = omega arith
+least-short false = omega arith
 
 add-least : tie.Need-add-least
 add-least c =

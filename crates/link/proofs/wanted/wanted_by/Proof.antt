@@ -10,4 +10,6 @@ unfolding wanted
 returns c = rw (c .before .before .before .before .pre) cc
 
 pub wanted-by-spec : {M : Type 1} → statement M
-wanted-by-spec = tie.close (tie.spec (λ c κs. search needs) (λ c κs. search needs) (λ c κs. search needs) returns)
+wanted-by-spec =
+    tie.close
+    (tie.spec (λ c κs. search needs) (λ c κs. search needs) (λ c κs. search needs) returns)

@@ -1,16 +1,16 @@
--- `print_touched` is safe and ends because its index rises up to the number of octets.
+-- `print_touched` is safe and ends because its index rises up to the length.
 -- Assumes nothing.
-use Prim.Native.Nat.{_-_, _≤_}
+use Prim.Native.Nat.{_-_}
 use lib.ListN.{length}
 use borrow.Author.Needs.{needs}
 use Rattle.link_cases.proofs.answers.print_touched.Statement.{statement}
 use Rattle.link_cases.proofs.answers.print_touched.Tie as tie
 
 abbrev Inv-loop : tie.InvT-loop
-Inv-loop rest i₀ t3 i = i ≤ length rest
+Inv-loop output from i₀ t4 i = Unit {0}
 
 abbrev μ-loop : tie.MeasureT-loop
-μ-loop rest i₀ t3 i = length rest - i
+μ-loop output from i₀ t4 i = length output - i
 
 pub print-touched-spec : {M : Type 1} → statement M
 print-touched-spec =

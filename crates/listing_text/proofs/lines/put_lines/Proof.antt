@@ -4,7 +4,7 @@ use mathlib.Core.Path.{_≡_}
 use Prim.Native.Nat.{_-_, _≤_}
 use native.Mathlib.Omega.{arith}
 use borrow.Author.Needs.{needs}
-use Rattle.association.specs.Image.{countOf}
+use Rattle.image.specs.Image.{countOf}
 use Rattle.listing_text.specs.Listing.{lines}
 use Rattle.listing_text.specs.Output.{Put}
 use Rattle.listing_text.proofs.Lengths.{line-fits}

@@ -7,7 +7,7 @@ use native.Mathlib.Omega.{arith}
 use lib.ListN.{length, take, drop}
 use lib.Seq.{take-length}
 use borrow.Author.Needs.{needs}
-use Rattle.frame.proofs.Fronting.{front-more}
+use Rattle.octets.proofs.Filling.{front-more}
 use Rattle.listing_text.proofs.Puts.{no-room, all-written}
 use Rattle.listing_text.proofs.output.copy_front.Statement.{statement}
 use Rattle.listing_text.proofs.output.copy_front.Tie as tie

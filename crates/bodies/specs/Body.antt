@@ -1,0 +1,99 @@
+-- Document 01, 'The image': the body of an entry, what its octets hold and what is allowed there. Octets are counted from the body's first.
+-- A field whose place, size or rule depends on the image's version is given it.
+-- Assumes nothing.
+use Prim.Native.Nat.{ℕ, _^_}
+use mathlib.Core.Bool.{Bool, false, _&&_, _||_}
+use mathlib.Core.List.{List}
+use lib.Dec.{eqb, leb, ltb}
+use Rattle.octets.specs.Lists.{octet, part}
+use Rattle.octets.specs.Numbers.{numberAt}
+use Rattle.kinds.specs.Kinds.{Kind, kindIs, named}
+use Rattle.kinds.specs.declared.kinds.Named.{Named}
+use Rattle.kinds.specs.declared.kinds.Named.the-variants as naming
+use Rattle.marks.specs.Gray.{codeLength, ungray}
+use Rattle.bodies.specs.Layout.{servicePlace, kindPlace, directionPlace, statePlace, spacecraftPlace, channelPlace, mapPlace, windowPlace}
+use Rattle.bodies.specs.Layout.{maskPlace, maskLength, layoutOf}
+
+-- ---- what it holds
+
+-- the body at a place, of an image of that version
+unfoldable pub bodyIn : List ℕ → ℕ → ℕ → List ℕ
+bodyIn image version at = part at (layoutOf version .body) image
+
+abbrev pub serviceOf : List ℕ → ℕ
+serviceOf body = octet body servicePlace
+
+-- the number of the frame kind
+abbrev pub kindIn : List ℕ → ℕ
+kindIn body = octet body kindPlace
+
+abbrev pub directionOf : List ℕ → ℕ
+directionOf body = octet body directionPlace
+
+abbrev pub stateOf : List ℕ → ℕ
+stateOf body = octet body statePlace
+
+abbrev pub spacecraftOf : List ℕ → ℕ
+spacecraftOf body = numberAt spacecraftPlace 2 body
+
+abbrev pub channelOf : List ℕ → ℕ
+channelOf body = octet body channelPlace
+
+abbrev pub mapOf : List ℕ → ℕ
+mapOf body = octet body mapPlace
+
+abbrev pub windowOf : List ℕ → ℕ
+windowOf body = numberAt windowPlace 2 body
+
+abbrev pub maskOf : List ℕ → List ℕ
+maskOf body = part maskPlace maskLength body
+
+abbrev pub codeOf : ℕ → List ℕ → ℕ
+codeOf version body = numberAt (layoutOf version .mark) codeLength body
+
+abbrev pub markOf : ℕ → List ℕ → ℕ
+markOf version body = ungray (codeOf version body)
+
+-- ---- what is allowed
+
+abbrev pub serviceOk : List ℕ → Bool
+serviceOk body = leb 1 (serviceOf body) && leb (serviceOf body) 2
+
+abbrev pub directionOk : List ℕ → Bool
+directionOk body = leb 1 (directionOf body) && leb (directionOf body) 2
+
+abbrev pub stateOk : List ℕ → Bool
+stateOk body = leb (stateOf body) 2
+
+-- the virtual channel: for a kind of frame, at most what it allows
+abbrev pub channelOk : ℕ → Kind → List ℕ → Bool
+channelOk version kind body = leb (channelOf body) (kind .mostChannel)
+
+-- the mask: where it is longer than what it covers of a header, the octet behind that is 0
+abbrev pub maskOk : Kind → List ℕ → Bool
+maskOk kind body = leb maskLength (kind .underMask) || eqb (octet (maskOf body) (kind .underMask)) 0
+
+-- the kind's number names one; spacecraft, virtual channel and MAP are at most what it allows, and the mask covers its header alone
+abbrev pub kindOk : ℕ → Named → List ℕ → Bool
+kindOk version (naming.Kind k) body =
+    leb (spacecraftOf body) (kindIs k .mostSpacecraft)
+    && channelOk version (kindIs k) body
+    && leb (mapOf body) (kindIs k .mostMap)
+    && maskOk (kindIs k) body
+kindOk version naming.Nothing body = false
+
+abbrev pub windowOk : List ℕ → Bool
+windowOk body = leb 1 (windowOf body) && leb (windowOf body) 1024
+
+abbrev pub markOk : ℕ → List ℕ → Bool
+markOk version body = ltb (markOf version body) (2 ^ 26)
+
+-- every rule of a body; the key may be any
+unfoldable pub bodyOk : ℕ → List ℕ → Bool
+bodyOk version body =
+    serviceOk body
+    && directionOk body
+    && stateOk body
+    && kindOk version (named (kindIn body)) body
+    && windowOk body
+    && markOk version body

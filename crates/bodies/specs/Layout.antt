@@ -1,0 +1,78 @@
+-- Document 01, 'The image': where everything of an image stands. What differs from version to version is one record for each version, and
+-- nothing else names its numbers; what every version has stands at the same places in each.
+-- Assumes nothing.
+use Prim.Native.Nat.{ℕ, _+_, _≤_}
+use mathlib.Core.Bool.{Bool}
+use lib.Dec.{eqb}
+use Rattle.marks.specs.Gray.{codeLength}
+use Rattle.bodies.specs.declared.layout.Layout.{Layout}
+
+-- ---- the first octets of a body: the fields that every version has, where each begins
+
+abbrev pub servicePlace : ℕ
+servicePlace = 0
+
+abbrev pub kindPlace : ℕ
+kindPlace = 1
+
+abbrev pub directionPlace : ℕ
+directionPlace = 2
+
+abbrev pub statePlace : ℕ
+statePlace = 3
+
+abbrev pub spacecraftPlace : ℕ
+spacecraftPlace = 4
+
+abbrev pub channelPlace : ℕ
+channelPlace = 6
+
+abbrev pub mapPlace : ℕ
+mapPlace = 7
+
+abbrev pub windowPlace : ℕ
+windowPlace = 8
+
+abbrev pub maskPlace : ℕ
+maskPlace = 10
+
+abbrev pub maskLength : ℕ
+maskLength = 6
+
+-- where they end
+abbrev pub fieldsEnd : ℕ
+fieldsEnd = 16
+
+-- ---- the versions
+
+abbrev pub keyLength : ℕ
+keyLength = 32
+
+-- the version's number; the octets of a body, and where in it key and mark stand; the entries that the contents have beyond the count
+abbrev pub versionOne : Layout
+versionOne = record { version = 1; body = 52; key = 16; mark = 48; extra = 0 }
+
+-- the layout by which an image is read: its version's, and for an image of no version that there is, version 1's
+unfoldable pub layoutOf : ℕ → Layout
+layoutOf version = versionOne
+
+-- there is a version if it has a layout of its own
+abbrev pub versionOk : ℕ → Bool
+versionOk version = eqb version (layoutOf version .version)
+
+-- ---- what a proof may use of a layout
+
+-- no body is longer, and no contents have more entries beyond the count
+abbrev pub mostBody : ℕ
+mostBody = 64
+
+abbrev pub mostExtra : ℕ
+mostExtra = 1
+
+-- fields, key and mark stand in this order in the body, and no place is large
+pub record Lawful (l : Layout) : Type 0 where
+  pub key : fieldsEnd ≤ l .key
+  pub mark : l .key + keyLength ≤ l .mark
+  pub inside : l .mark + codeLength ≤ l .body
+  pub small : l .body ≤ mostBody
+  pub few : l .extra ≤ mostExtra

@@ -1,0 +1,186 @@
+// Document 01, 'The image': the body of an entry, what its octets hold and what is allowed there.
+use crate::layout::CHANNEL;
+use crate::layout::DIRECTION;
+use crate::layout::KIND;
+use crate::layout::MAP;
+use crate::layout::MASK;
+use crate::layout::MASK_LENGTH;
+use crate::layout::SERVICE;
+use crate::layout::SPACECRAFT;
+use crate::layout::STATE;
+use crate::layout::WINDOW;
+use crate::layout::layout_of;
+use kinds::Kind;
+use kinds::Named;
+use kinds::kind_of;
+use octets::copy_at;
+use octets::four_at;
+use octets::octet_at;
+use octets::two_at;
+ghost use mathlib.Core.Path.{_≡_};
+ghost use Prim.Native.Nat.{_+_, _<_, _≤_};
+ghost use Rattle.octets.specs.Lists.{octet};
+ghost use Rattle.octets.specs.Numbers.{numberAt};
+ghost use Rattle.kinds.specs.Kinds.{kindIs, named};
+ghost use Rattle.bodies.specs.Body.{bodyIn, serviceOf, kindIn, directionOf, stateOf, spacecraftOf, channelOf, mapOf, windowOf, maskOf, codeOf};
+ghost use Rattle.bodies.specs.Body.{serviceOk, directionOk, stateOk, channelOk, maskOk, kindOk, windowOk, markOk, bodyOk};
+ghost use Rattle.bodies.specs.Layout.{fieldsEnd};
+
+// What it holds. Of the fields that every version has: octet k, and the number of two octets from there on.
+fn body_octet(image: &[u8], version: u8, at: u16, k: usize) -> u8
+    requires { ⌜ k < fieldsEnd ⌝ }
+    ensures { λ r. ⌜ r ≡ octet (bodyIn (now (image .entry)) version at) k ⌝ }
+{
+    octet_at(image, at as usize + k)
+}
+
+fn body_two(image: &[u8], version: u8, at: u16, k: usize) -> u16
+    requires { ⌜ k + 2 ≤ fieldsEnd ⌝ }
+    ensures { λ r. ⌜ r ≡ numberAt k 2 (bodyIn (now (image .entry)) version at) ⌝ }
+{
+    two_at(image, at as usize + k)
+}
+
+pub fn service_of(image: &[u8], version: u8, at: u16) -> u8
+    ensures { λ r. ⌜ r ≡ serviceOf (bodyIn (now (image .entry)) version at) ⌝ }
+{
+    body_octet(image, version, at, SERVICE)
+}
+
+// The number of the frame kind.
+pub fn kind_in(image: &[u8], version: u8, at: u16) -> u8
+    ensures { λ r. ⌜ r ≡ kindIn (bodyIn (now (image .entry)) version at) ⌝ }
+{
+    body_octet(image, version, at, KIND)
+}
+
+pub fn direction_of(image: &[u8], version: u8, at: u16) -> u8
+    ensures { λ r. ⌜ r ≡ directionOf (bodyIn (now (image .entry)) version at) ⌝ }
+{
+    body_octet(image, version, at, DIRECTION)
+}
+
+pub fn state_of(image: &[u8], version: u8, at: u16) -> u8
+    ensures { λ r. ⌜ r ≡ stateOf (bodyIn (now (image .entry)) version at) ⌝ }
+{
+    body_octet(image, version, at, STATE)
+}
+
+pub fn spacecraft_of(image: &[u8], version: u8, at: u16) -> u16
+    ensures { λ r. ⌜ r ≡ spacecraftOf (bodyIn (now (image .entry)) version at) ⌝ }
+{
+    body_two(image, version, at, SPACECRAFT)
+}
+
+pub fn channel_of(image: &[u8], version: u8, at: u16) -> u8
+    ensures { λ r. ⌜ r ≡ channelOf (bodyIn (now (image .entry)) version at) ⌝ }
+{
+    body_octet(image, version, at, CHANNEL)
+}
+
+pub fn map_of(image: &[u8], version: u8, at: u16) -> u8
+    ensures { λ r. ⌜ r ≡ mapOf (bodyIn (now (image .entry)) version at) ⌝ }
+{
+    body_octet(image, version, at, MAP)
+}
+
+pub fn window_of(image: &[u8], version: u8, at: u16) -> u16
+    ensures { λ r. ⌜ r ≡ windowOf (bodyIn (now (image .entry)) version at) ⌝ }
+{
+    body_two(image, version, at, WINDOW)
+}
+
+pub fn mask_of(image: &[u8], version: u8, at: u16) -> [u8; 6]
+    ensures { λ r. ⌜ r ≡ maskOf (bodyIn (now (image .entry)) version at) ⌝ }
+{
+    let mut mask: [u8; MASK_LENGTH] = [0; MASK_LENGTH];
+    copy_at(image, at as usize + MASK, &mut mask);
+    mask
+}
+
+pub fn code_of(image: &[u8], version: u8, at: u16) -> u32
+    ensures { λ r. ⌜ r ≡ codeOf version (bodyIn (now (image .entry)) version at) ⌝ }
+{
+    four_at(image, at as usize + layout_of(version).mark as usize)
+}
+
+// What is allowed: a function for each rule of the table.
+fn service_ok(image: &[u8], version: u8, at: u16) -> bool
+    ensures { λ r. ⌜ r ≡ serviceOk (bodyIn (now (image .entry)) version at) ⌝ }
+{
+    let service = service_of(image, version, at);
+    (1 <= service) & (service <= 2)
+}
+
+fn direction_ok(image: &[u8], version: u8, at: u16) -> bool
+    ensures { λ r. ⌜ r ≡ directionOk (bodyIn (now (image .entry)) version at) ⌝ }
+{
+    let direction = direction_of(image, version, at);
+    (1 <= direction) & (direction <= 2)
+}
+
+fn state_ok(image: &[u8], version: u8, at: u16) -> bool
+    ensures { λ r. ⌜ r ≡ stateOk (bodyIn (now (image .entry)) version at) ⌝ }
+{
+    state_of(image, version, at) <= 2
+}
+
+fn channel_ok(image: &[u8], kind: Kind, version: u8, at: u16) -> bool
+    ensures { λ r. ⌜ r ≡ channelOk version (kindIs kind) (bodyIn (now (image .entry)) version at) ⌝ }
+{
+    channel_of(image, version, at) <= kind.most_channel()
+}
+
+// Where the mask is longer than what it covers of a header, the octet behind that is 0.
+fn mask_ok(image: &[u8], kind: Kind, version: u8, at: u16) -> bool
+    ensures { λ r. ⌜ r ≡ maskOk (kindIs kind) (bodyIn (now (image .entry)) version at) ⌝ }
+{
+    let mask = mask_of(image, version, at);
+    let covered = kind.under_mask();
+    (MASK_LENGTH <= covered) | (octet_at(&mask, covered) == 0)
+}
+
+// Spacecraft, virtual channel and MAP are at most what the kind allows, and the mask covers its header alone.
+fn kind_kept(image: &[u8], kind: Kind, version: u8, at: u16) -> bool
+    ensures { λ r. ⌜ r ≡ kindOk version (Named.Kind kind) (bodyIn (now (image .entry)) version at) ⌝ }
+{
+    (spacecraft_of(image, version, at) <= kind.most_spacecraft())
+        & channel_ok(image, kind, version, at)
+        & (map_of(image, version, at) <= kind.most_map())
+        & mask_ok(image, kind, version, at)
+}
+
+// The kind's number names one, and its rules are kept.
+fn kind_ok(image: &[u8], version: u8, at: u16) -> bool
+    ensures { λ r. ⌜ r ≡ kindOk version (named (kindIn (bodyIn (now (image .entry)) version at))) (bodyIn (now (image .entry)) version at) ⌝ }
+{
+    match kind_of(kind_in(image, version, at)) {
+        Named::Kind(kind) => kind_kept(image, kind, version, at),
+        Named::Nothing => false,
+    }
+}
+
+fn window_ok(image: &[u8], version: u8, at: u16) -> bool
+    ensures { λ r. ⌜ r ≡ windowOk (bodyIn (now (image .entry)) version at) ⌝ }
+{
+    let window = window_of(image, version, at);
+    (1 <= window) & (window <= 1024)
+}
+
+// A mark is below 2^26 if and only if its code is, so the code is tested and no mark made.
+fn mark_ok(image: &[u8], version: u8, at: u16) -> bool
+    ensures { λ r. ⌜ r ≡ markOk version (bodyIn (now (image .entry)) version at) ⌝ }
+{
+    code_of(image, version, at) < 67108864
+}
+
+pub fn body_ok(image: &[u8], version: u8, at: u16) -> bool
+    ensures { λ r. ⌜ r ≡ bodyOk version (bodyIn (now (image .entry)) version at) ⌝ }
+{
+    service_ok(image, version, at)
+        & direction_ok(image, version, at)
+        & state_ok(image, version, at)
+        & kind_ok(image, version, at)
+        & window_ok(image, version, at)
+        & mark_ok(image, version, at)
+}

@@ -1,0 +1,54 @@
+// Where everything of an image stands: one record for each version, and nothing else names its numbers.
+ghost use mathlib.Core.Path.{_≡_};
+ghost use Rattle.bodies.specs.Layout.{layoutOf, versionOk, Lawful};
+
+// The fields that every version has, at the same places of a body.
+pub(crate) const SERVICE: usize = 0;
+
+pub(crate) const KIND: usize = 1;
+
+pub(crate) const DIRECTION: usize = 2;
+
+pub(crate) const STATE: usize = 3;
+
+pub(crate) const SPACECRAFT: usize = 4;
+
+pub(crate) const CHANNEL: usize = 6;
+
+pub(crate) const MAP: usize = 7;
+
+pub(crate) const WINDOW: usize = 8;
+
+pub(crate) const MASK: usize = 10;
+
+pub(crate) const MASK_LENGTH: usize = 6;
+
+pub struct Layout {
+    pub version: u8,
+    // The octets of a body, and where in it key and mark stand.
+    pub body: u8,
+    pub key: u8,
+    pub mark: u8,
+    // The entries that the contents have beyond the count.
+    pub extra: u8,
+}
+
+// The layout of a version; another number is read as version 1 is, and is not the number of that layout.
+pub fn layout_of(version: u8) -> Layout
+    ensures { λ r. ⌜ (r ≡ layoutOf version) × Lawful r ⌝ }
+{
+    Layout {
+        version: 1,
+        body: 52,
+        key: 16,
+        mark: 48,
+        extra: 0,
+    }
+}
+
+// There is a version if it has a layout of its own.
+pub fn version_ok(version: u8) -> bool
+    ensures { λ r. ⌜ r ≡ versionOk version ⌝ }
+{
+    version == layout_of(version).version
+}

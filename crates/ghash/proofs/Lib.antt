@@ -1,0 +1,4 @@
+pub mod Examples
+pub mod Hashing
+pub mod Linear
+pub mod Shifts

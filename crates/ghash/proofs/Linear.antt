@@ -1,0 +1,201 @@
+-- The product is linear, so it can be taken four bits at a time: the four bits by a table, and the rest moved on by four next V's.
+-- Assumes nothing.
+use mathlib.Core.Path.{_≡_, refl, sym, ap, ap₂, _∙_}
+use mathlib.Core.List.{List}
+use Prim.Native.Nat.{ℕ, zero, suc, _+_, _-_, _*_, _/_, _%_, _^_, _≤_, _<_}
+use native.Mathlib.Omega.{arith}
+use native.Mathlib.Nat.{mod-lt, zero-mul, one-mul, zero-add, suc-add, add-zero, add-comm, mul-assoc, div-add-mod'}
+use borrow.Author.Count.{below-more}
+use lib.Bits.{differ, xor-zero-r, xor-comm, xor-self, xor-shifted, xor-block}
+use lib.Dec.{lit<, eqb, eqb→eq}
+use lib.ListN.{length, set, replicate, length-set}
+use lib.Pow.{shr-shr, field, mod-mod-pow}
+use lib.Seq.{getD-set-other, getD-set-same}
+use Rattle.octets.specs.Xor.{_⊕_}
+use Rattle.octets.proofs.Tables.{every-at}
+use Rattle.octets.proofs.XorLaws.{xor-assoc, xor-half, xor-odd}
+use Rattle.ghash.specs.Product.{R, nextV, rounds}
+use Rattle.ghash.specs.Table.{nexts, entry}
+
+-- (a + b) + (c + d) = (a + c) + (b + d)
+xor-four : (a b c d : ℕ) → (a ⊕ b) ⊕ (c ⊕ d) ≡ (a ⊕ c) ⊕ (b ⊕ d)
+xor-four a b c d =
+    xor-assoc a b (c ⊕ d)
+    ∙ ap (λ (x : ℕ). a ⊕ x) (sym (xor-assoc b c d) ∙ ap (λ (x : ℕ). x ⊕ d) (xor-comm b c) ∙ xor-assoc c b d)
+    ∙ sym (xor-assoc a c (b ⊕ d))
+
+-- a bit times a number, the bit a sum of two
+bit-scale : (x y n : ℕ) → x < 2 → y < 2 → differ x y * n ≡ x * n ⊕ y * n
+bit-scale zero y n hx hy = ap (λ (k : ℕ). k ⊕ y * n) (sym (zero-mul n))
+bit-scale (suc x) zero n hx hy = sym (ap (λ (k : ℕ). suc x * n ⊕ k) (zero-mul n) ∙ xor-zero-r (suc x * n))
+bit-scale (suc zero) (suc zero) n hx hy = zero-mul n ∙ sym (xor-self (1 * n))
+bit-scale (suc zero) (suc (suc y)) n hx hy = absurd (omega arith)
+bit-scale (suc (suc x)) (suc y) n hx hy = absurd (omega arith)
+
+next-xor : (a b : ℕ) → nextV (a ⊕ b) ≡ nextV a ⊕ nextV b
+unfolding nextV
+next-xor a b =
+    ap₂ _⊕_ (xor-half a b) (ap (λ (d : ℕ). d * R) (xor-odd a b) ∙ bit-scale (a % 2) (b % 2) R (mod-lt a (lit< tt)) (mod-lt b (lit< tt)))
+    ∙ xor-four (a / 2) (b / 2) (a % 2 * R) (b % 2 * R)
+
+next-zero : nextV 0 ≡ 0
+unfolding nextV
+next-zero = refl
+
+-- a bit goes through nextV
+next-bit : (b v : ℕ) → b < 2 → nextV (b * v) ≡ b * nextV v
+next-bit zero v h = ap nextV (zero-mul v) ∙ next-zero ∙ sym (zero-mul (nextV v))
+next-bit (suc zero) v h = ap nextV (one-mul v) ∙ sym (one-mul (nextV v))
+next-bit (suc (suc b)) v h = absurd (omega arith)
+
+-- Z only adds
+rounds-xor : (k x z w v : ℕ) → rounds k x (z ⊕ w) v ≡ z ⊕ rounds k x w v
+unfolding rounds
+rounds-xor zero x z w v = refl
+rounds-xor (suc k) x z w v =
+    ap (λ (n : ℕ). rounds k x n (nextV v)) (xor-assoc z w (x / 2 ^ k % 2 * v)) ∙ rounds-xor k x z (w ⊕ x / 2 ^ k % 2 * v) (nextV v)
+
+rounds-from : (k x z v : ℕ) → rounds k x z v ≡ z ⊕ rounds k x 0 v
+rounds-from k x z v = ap (λ (n : ℕ). rounds k x n v) (sym (xor-zero-r z)) ∙ rounds-xor k x z 0 v
+
+-- nextV goes through the rounds
+rounds-next : (k x z v : ℕ) → rounds k x (nextV z) (nextV v) ≡ nextV (rounds k x z v)
+unfolding rounds
+rounds-next zero x z v = refl
+rounds-next (suc k) x z v =
+    ap (λ (n : ℕ). rounds k x n (nextV (nextV v)))
+    (ap (λ (n : ℕ). nextV z ⊕ n) (sym (next-bit (x / 2 ^ k % 2) v (mod-lt (x / 2 ^ k) (lit< tt)))) ∙ sym (next-xor z (x / 2 ^ k % 2 * v)))
+    ∙ rounds-next k x (z ⊕ x / 2 ^ k % 2 * v) (nextV v)
+
+-- Horner's rule: the highest of k + 1 bits, and the others one place on
+horner : (k x v : ℕ) → rounds (suc k) x 0 v ≡ x / 2 ^ k % 2 * v ⊕ nextV (rounds k x 0 v)
+unfolding rounds
+horner k x v =
+    rounds-from k x (x / 2 ^ k % 2 * v) (nextV v)
+    ∙ ap (λ (n : ℕ). x / 2 ^ k % 2 * v ⊕ n) (ap (λ (n : ℕ). rounds k x n (nextV v)) (sym next-zero) ∙ rounds-next k x 0 v)
+
+-- the same for j bits at a time
+horner-by : (j k x v : ℕ) → rounds (j + k) x 0 v ≡ rounds j (x / 2 ^ k) 0 v ⊕ nexts j (rounds k x 0 v)
+unfolding nexts rounds
+horner-by zero k x v = ap (λ (n : ℕ). rounds n x 0 v) (zero-add k)
+horner-by (suc j) k x v =
+    let low : ℕ = nexts j (rounds k x 0 v) in
+    ap (λ (n : ℕ). rounds n x 0 v) (suc-add j k)
+    ∙ horner (j + k) x v
+    ∙ ap₂ (λ (d n : ℕ). d % 2 * v ⊕ nextV n) (ap (λ (e : ℕ). x / 2 ^ e) (add-comm j k) ∙ sym (shr-shr x k j)) (horner-by j k x v)
+    ∙ ap (λ (n : ℕ). x / 2 ^ k / 2 ^ j % 2 * v ⊕ n) (next-xor (rounds j (x / 2 ^ k) 0 v) low)
+    ∙ sym (xor-assoc (x / 2 ^ k / 2 ^ j % 2 * v) (nextV (rounds j (x / 2 ^ k) 0 v)) (nextV low))
+    ∙ ap (λ (n : ℕ). n ⊕ nextV low) (sym (horner j (x / 2 ^ k) v))
+
+-- the j rounds look at the j low bits alone
+bit-mod : (x m k : ℕ) → k < m → x % 2 ^ m / 2 ^ k % 2 ≡ x / 2 ^ k % 2
+bit-mod x m k h =
+    let e₁ : m ≡ m - k + k = omega arith in
+    let e₂ : m - k ≡ m - k - 1 + 1 = omega arith in
+    ap (λ (e : ℕ). x % 2 ^ e / 2 ^ k % 2) e₁
+    ∙ ap (λ (n : ℕ). n % 2) (field x (m - k) k)
+    ∙ ap (λ (e : ℕ). x / 2 ^ k % 2 ^ e % 2) e₂
+    ∙ mod-mod-pow (x / 2 ^ k) (m - k - 1) 1
+
+rounds-low : (j m x z v : ℕ) → j ≤ m → rounds j (x % 2 ^ m) z v ≡ rounds j x z v
+unfolding rounds
+rounds-low zero m x z v h = refl
+rounds-low (suc j) m x z v h =
+    ap (λ (b : ℕ). rounds j (x % 2 ^ m) (z ⊕ b * v) (nextV v)) (bit-mod x m j h)
+    ∙ rounds-low j m x (z ⊕ x / 2 ^ j % 2 * v) (nextV v) (omega arith)
+
+-- four next V's at once: what stays moves down four places, and the four bits that fall out come back
+next-even : (q : ℕ) → nextV (q * 2) ≡ q
+unfolding nextV
+next-even q =
+    let e : q * 2 / 2 ≡ q = omega arith in
+    let o : q * 2 % 2 ≡ 0 = omega arith in
+    ap₂ (λ (a b : ℕ). a ⊕ b * R) e o ∙ xor-zero-r q
+
+nexts-shifted : (q : ℕ) → nexts 4 (q * 16) ≡ q
+unfolding nexts
+nexts-shifted q =
+    ap (λ (n : ℕ). nextV (nextV (nextV n))) (ap nextV (sym (mul-assoc q 8 2)) ∙ next-even (q * 8))
+    ∙ ap (λ (n : ℕ). nextV (nextV n)) (ap nextV (sym (mul-assoc q 4 2)) ∙ next-even (q * 4))
+    ∙ ap nextV (ap nextV (sym (mul-assoc q 2 2)) ∙ next-even (q * 2))
+    ∙ next-even q
+
+nexts-xor : (n a b : ℕ) → nexts n (a ⊕ b) ≡ nexts n a ⊕ nexts n b
+unfolding nexts
+nexts-xor zero a b = refl
+nexts-xor (suc n) a b = ap nextV (nexts-xor n a b) ∙ next-xor (nexts n a) (nexts n b)
+
+nexts-split : (z : ℕ) → nexts 4 z ≡ z / 16 ⊕ nexts 4 (z % 16)
+nexts-split z =
+    ap (nexts 4) (sym (xor-shifted (z / 16) 4 (z % 16) (mod-lt z (lit< tt)) ∙ div-add-mod' z 16))
+    ∙ nexts-xor 4 (z / 16 * 16) (z % 16)
+    ∙ ap (λ (n : ℕ). n ⊕ nexts 4 (z % 16)) (nexts-shifted (z / 16))
+
+-- n times R's first octet, without carries, at bit 53 of the high half
+abbrev back : ℕ → ℕ
+back n = n * 0x1000_0000_0000_0000 ⊕ n * 0x0800_0000_0000_0000 ⊕ n * 0x0400_0000_0000_0000 ⊕ n * 0x0020_0000_0000_0000
+
+back-right : (n : ℕ) → n < 16 → nexts 4 n ≡ back n * 2 ^ 64
+unfolding nexts nextV
+back-right n h =
+    eqb→eq (nexts 4 n) (back n * 2 ^ 64) (every-at (λ k x. eqb (nexts 4 k) (back k * 2 ^ 64)) (replicate 16 0) tt n h)
+
+-- as the code has it, in two halves
+pub nexts-halves : (hi lo : ℕ) → lo < 2 ^ 64
+    → (hi / 16 ⊕ back (lo % 16)) * 2 ^ 64 + (lo / 16 + hi % 16 * 0x1000_0000_0000_0000) ≡ nexts 4 (hi * 2 ^ 64 + lo)
+nexts-halves hi lo h =
+    let down : ℕ = lo / 16 + hi % 16 * 0x1000_0000_0000_0000 in
+    let l : down < 2 ^ 64 = omega arith in
+    let e : (hi * 2 ^ 64 + lo) / 16 ≡ hi / 16 * 2 ^ 64 + down = omega arith in
+    let m : (hi * 2 ^ 64 + lo) % 16 ≡ lo % 16 = omega arith in
+    sym
+    (nexts-split (hi * 2 ^ 64 + lo)
+    ∙ ap₂ _⊕_ e (ap (nexts 4) m ∙ back-right (lo % 16) (mod-lt lo (lit< tt)) ∙ sym (add-zero (back (lo % 16) * 2 ^ 64)))
+    ∙ xor-block 64 (hi / 16) (back (lo % 16)) down 0 l (lit< tt)
+    ∙ ap (λ (x : ℕ). (hi / 16 ⊕ back (lo % 16)) * 2 ^ 64 + x) (xor-zero-r down))
+
+-- four bits n more: their entry e, and four next V's of what the bits below gave
+pub rounds-four : (k x v n e s z z′ : ℕ) → z ≡ rounds k x 0 v → n ≡ x / 2 ^ k % 16 → e ≡ rounds 4 n 0 v → s ≡ nexts 4 z → z′ ≡ e ⊕ s
+    → z′ ≡ rounds (k + 4) x 0 v
+rounds-four k x v n e s z z′ ez en ee es ez′ =
+    ez′
+    ∙ ap₂ _⊕_ (ee ∙ ap (λ (m : ℕ). rounds 4 m 0 v) en ∙ rounds-low 4 4 (x / 2 ^ k) 0 v (omega arith)) (es ∙ ap (nexts 4) ez)
+    ∙ sym (horner-by 4 k x v)
+    ∙ ap (λ (j : ℕ). rounds j x 0 v) (add-comm 4 k)
+
+-- one round, counted down: the bit, V or 0, the sum, the next V
+rounds-step : (k x z v : ℕ) → 0 < k → rounds k x z v ≡ rounds (k - 1) x (z ⊕ x / 2 ^ (k - 1) % 2 * v) (nextV v)
+unfolding rounds
+rounds-step zero x z v h = absurd (omega arith)
+rounds-step (suc k) x z v h =
+    let e : suc k - 1 ≡ k = omega arith in
+    rw e
+
+pub rounds-one : (k x z v t z′ v′ p : ℕ) → 0 < k → rounds k x z v ≡ p → t ≡ x / 2 ^ (k - 1) % 2 * v → z′ ≡ z ⊕ t → v′ ≡ nextV v
+    → rounds (k - 1) x z′ v′ ≡ p
+rounds-one k x z v t z′ v′ p h e et ez ev = cc (rounds-step k x z v h)
+
+pub rounds-none : (k x z v : ℕ) → k ≤ 0 → rounds k x z v ≡ z
+unfolding rounds
+rounds-none zero x z v h = refl
+rounds-none (suc k) x z v h = absurd (omega arith)
+
+-- one more entry of the table
+module _ (t : List ℕ) (n a b h : ℕ) (l : length t ≡ 32) (hn : n < 16) where
+  entry-other : (m : ℕ) → m < n → entry (set (set t (n * 2) a) (n * 2 + 1) b) m ≡ entry t m
+  entry-other m hm =
+      ap₂ (λ (x y : ℕ). x * 2 ^ 64 + y)
+      (getD-set-other (set t (n * 2) a) (n * 2 + 1) (m * 2) b 0 (λ e. omega arith)
+      ∙ getD-set-other t (n * 2) (m * 2) a 0 (λ e. omega arith))
+      (getD-set-other (set t (n * 2) a) (n * 2 + 1) (m * 2 + 1) b 0 (λ e. omega arith)
+      ∙ getD-set-other t (n * 2) (m * 2 + 1) a 0 (λ e. omega arith))
+
+  entry-same : entry (set (set t (n * 2) a) (n * 2 + 1) b) n ≡ a * 2 ^ 64 + b
+  entry-same =
+      ap₂ (λ (x y : ℕ). x * 2 ^ 64 + y)
+      (getD-set-other (set t (n * 2) a) (n * 2 + 1) (n * 2) b 0 (λ e. omega arith) ∙ getD-set-same t (n * 2) a 0 (omega arith))
+      (getD-set-same (set t (n * 2) a) (n * 2 + 1) b 0 (omega (arith, length-set t (n * 2) a)))
+
+  pub entries-more : ((m : ℕ) → m < n → entry t m ≡ rounds 4 m 0 h) → a * 2 ^ 64 + b ≡ rounds 4 n 0 h
+      → (m : ℕ) → m < n + 1 → entry (set (set t (n * 2) a) (n * 2 + 1) b) m ≡ rounds 4 m 0 h
+  entries-more below e = below-more _ _ (λ m hm. entry-other m hm ∙ below m hm) (entry-same ∙ e)

@@ -1,0 +1,4 @@
+pub mod Ghash
+pub mod Input
+pub mod Product
+pub mod Table

@@ -1,0 +1,3 @@
+pub mod KeptParts
+pub mod Places
+pub mod ValidImages

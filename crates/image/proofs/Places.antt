@@ -1,0 +1,121 @@
+-- Document 01, 'The image': where bodies, marks and keys stand, and how long and of what octets a body and its fields are. In an image that
+-- is laid out, the bodies lie inside, behind the contents, and apart from each other.
+-- Assumes nothing.
+use mathlib.Core.Path.{_≡_, refl, sym, ap}
+use mathlib.Core.Logic.{inl, inr, _≢_}
+use mathlib.Core.List.{List}
+use Prim.Native.Nat.{ℕ, _+_, _^_, _≤_, _<_}
+use native.Mathlib.Decide.{ℕ-discrete, decLt}
+use native.Mathlib.Omega.{arith}
+use lib.ListN.{length}
+use Rattle.octets.specs.Lists.{octet, part, Octets}
+use Rattle.octets.specs.Numbers.{numberAt}
+use Rattle.octets.proofs.Numbers.{numberAt-lt, numberAt-part}
+use Rattle.octets.proofs.Parts.{length-part, octet-part, octets-part, part-part}
+use Rattle.marks.specs.Gray.{codeLength, ungray}
+use Rattle.octets.proofs.Outside.{Apart}
+use Rattle.bodies.specs.Body.{bodyIn, maskOf, codeOf}
+use Rattle.bodies.specs.Layout.{maskPlace, maskLength, keyLength, layoutOf, Lawful}
+use Rattle.bodies.proofs.Layouts.{lawful, ends-before}
+use Rattle.image.specs.Image.{versionOf, countOf, layout, entryPlace, bodyAt, bodyOf, markAt, markIn, keyAt, keyOf, imageSize}
+use Rattle.image.proofs.ValidImages.{LaidOut}
+
+-- ---- a body and its fields, in any image
+
+pub length-body : (image : List ℕ) (i : ℕ) → length (bodyOf image i) ≡ layout image .body
+unfolding bodyOf bodyIn
+length-body image i = length-part (bodyAt image i) (layout image .body) image
+
+pub octet-body : (image : List ℕ) (i k : ℕ) → k < layout image .body → octet (bodyOf image i) k ≡ octet image (bodyAt image i + k)
+unfolding bodyOf bodyIn
+octet-body image i k h = octet-part (bodyAt image i) (layout image .body) image k h
+
+pub number-body : (image : List ℕ) (i k n : ℕ) → k + n ≤ layout image .body
+    → numberAt k n (bodyOf image i) ≡ numberAt (bodyAt image i + k) n image
+unfolding bodyOf bodyIn
+number-body image i k n h = numberAt-part (bodyAt image i) (layout image .body) k n image h
+
+pub part-body : (image : List ℕ) (i k n : ℕ) → k + n ≤ layout image .body → part k n (bodyOf image i) ≡ part (bodyAt image i + k) n image
+unfolding bodyOf bodyIn
+part-body image i k n h = part-part (bodyAt image i) (layout image .body) k n image h
+
+pub octets-body : (image : List ℕ) (i : ℕ) → Octets image → Octets (bodyOf image i)
+unfolding bodyOf bodyIn
+octets-body image i h = octets-part (bodyAt image i) (layout image .body) image h
+
+pub octets-mask : (body : List ℕ) → Octets body → Octets (maskOf body)
+octets-mask body h = octets-part maskPlace maskLength body h
+
+pub code-lt : (version : ℕ) (body : List ℕ) → Octets body → codeOf version body < 2 ^ 32
+code-lt version body h = numberAt-lt (layoutOf version .mark) codeLength body h
+
+-- ---- the key
+
+pub length-key : (image : List ℕ) (i : ℕ) → length (keyOf image i) ≡ keyLength
+unfolding keyOf
+length-key image i = length-part (keyAt image i) keyLength image
+
+pub octets-key : (image : List ℕ) (i : ℕ) → Octets image → Octets (keyOf image i)
+unfolding keyOf
+octets-key image i h = octets-part (keyAt image i) keyLength image h
+
+-- it stands in the body
+pub key-body : (image : List ℕ) (i : ℕ) → keyOf image i ≡ part (layout image .key) keyLength (bodyOf image i)
+unfolding keyOf keyAt
+key-body image i =
+    let l : Lawful (layout image) = lawful (versionOf image) in
+    sym (part-body image i (layout image .key) keyLength (omega arith))
+
+-- ---- the mark
+
+-- it stands in the body, so its code can be read there or in the image
+pub mark-behind-body : (image : List ℕ) (i : ℕ) → markAt image i ≡ bodyAt image i + layout image .mark
+unfolding markAt
+mark-behind-body image i = refl
+
+pub code-at : (image : List ℕ) (i : ℕ) → codeOf (versionOf image) (bodyOf image i) ≡ numberAt (markAt image i) codeLength image
+unfolding markAt
+code-at image i = number-body image i (layout image .mark) codeLength (lawful (versionOf image) .inside)
+
+pub mark-at : (image : List ℕ) (i : ℕ) → markIn image i ≡ ungray (numberAt (markAt image i) codeLength image)
+unfolding markIn
+mark-at image i = ap ungray (code-at image i)
+
+-- ---- inside, behind the contents, and apart
+
+-- the bodies stand behind the contents
+pub behind-contents : (image : List ℕ) (i : ℕ) → entryPlace (countOf image + layout image .extra) ≤ bodyAt image i
+unfolding bodyAt
+behind-contents image i = omega arith
+
+-- the bodies and their marks lie inside the image
+pub body-inside : (image : List ℕ) → LaidOut image → (i : ℕ) → i < countOf image → bodyAt image i + layout image .body ≤ length image
+unfolding bodyAt imageSize
+body-inside image laid i h = omega (arith, laid .size, ends-before (layout image .body) i (countOf image) h)
+
+pub mark-inside : (image : List ℕ) → LaidOut image → (i : ℕ) → i < countOf image → markAt image i + codeLength ≤ length image
+mark-inside image laid i h =
+    omega (arith, body-inside image laid i h, mark-behind-body image i, lawful (versionOf image) .inside)
+
+-- n octets in a body, and any in another, stand apart
+pub bodies-apart : (image : List ℕ) (i j at n p k : ℕ) → j ≢ i → at + n ≤ layout image .body → p + k ≤ layout image .body
+    → Apart (bodyAt image i + at) n (bodyAt image j + p) k
+unfolding bodyAt
+bodies-apart image i j at n p k other h l = by-place (decLt j i)
+  where
+    by-place : Dec (j < i) → Apart (bodyAt image i + at) n (bodyAt image j + p) k
+    by-place (yes m) = inl (omega (arith, ends-before (layout image .body) j i m))
+    by-place (no g) = inr (omega (arith, ends-before (layout image .body) i j (omega arith)))
+
+-- no mark stands where a key does
+pub key-apart : (image : List ℕ) (i j : ℕ) → Apart (markAt image i) codeLength (keyAt image j) keyLength
+unfolding markAt keyAt
+key-apart image i j = by-entry (ℕ-discrete j i)
+  where
+    l : Lawful (layout image)
+    l = lawful (versionOf image)
+
+    by-entry : Dec (j ≡ i) → Apart (markAt image i) codeLength (keyAt image j) keyLength
+    by-entry (yes e) = inl (rw e (omega (arith, l .mark)))
+    by-entry (no other) =
+        bodies-apart image i j (layout image .mark) codeLength (layout image .key) keyLength other (l .inside) (omega (arith, l .mark, l .inside))

@@ -1,0 +1,103 @@
+-- Document 01, 'The image': what a valid image is known to be. Its rules, which the definition tests one behind the other, are facts with
+-- names; and its SPIs rise, so that no two entries have the same.
+-- Assumes nothing.
+use mathlib.Core.Path.{_≡_}
+use mathlib.Core.Bool.{Bool, true, _&&_}
+use mathlib.Core.List.{List}
+use Prim.Native.Nat.{ℕ, zero, suc, _-_, _^_, _≤_, _<_}
+use native.Mathlib.Decide.{decLt}
+use native.Mathlib.Omega.{arith}
+use borrow.Author.Tests.{eqb-true, leb-true, ltb-true}
+use lib.Dec.{eqb·suc-zero}
+use lib.ListN.{length}
+use Rattle.octets.specs.Lists.{all}
+use Rattle.octets.proofs.Alls.{and-left, and-right, all-at}
+use Rattle.bodies.specs.Body.{bodyOk}
+use Rattle.bodies.specs.Layout.{versionOk}
+use Rattle.bodies.proofs.ValidBodies.{ValidBody, between, valid-body}
+use Rattle.image.specs.Image.{versionOf, countOf, spiOf, positionOf, spiBefore, bodyAt, bodyOf, markIn, mostEntries, imageSize}
+use Rattle.image.specs.Image.{laidOut, entryOk, validImage}
+
+-- ---- the rules as facts
+
+-- version, count and size
+pub record LaidOut (image : List ℕ) : Type 0 where
+  pub version : versionOk (versionOf image) ≡ true
+  pub count : countOf image ≤ mostEntries
+  pub size : length image ≡ imageSize image
+
+-- every rule of an entry and its body
+pub record ValidEntry (image : List ℕ) (i : ℕ) : Type 0 where
+  pub spi : (1 ≤ spiOf image i) × (spiOf image i ≤ 65534)
+  pub rises : spiBefore image i < spiOf image i
+  pub position : positionOf image i ≡ bodyAt image i
+  pub body : ValidBody (versionOf image) (bodyOf image i)
+
+-- every rule of an image
+pub record Valid (image : List ℕ) : Type 0 where
+  pub laid : LaidOut image
+  pub entry : (i : ℕ) → i < countOf image → ValidEntry image i
+
+-- ---- the tests give the facts
+
+pub laid-out : (image : List ℕ) → laidOut image ≡ true → LaidOut image
+unfolding laidOut
+laid-out image e =
+    record {
+      version = search (and-left, and-right);
+      count = leb-true (countOf image) mostEntries (search (and-left, and-right));
+      size = eqb-true (length image) (imageSize image) (search (and-left, and-right));
+    }
+
+pub valid-entry : (image : List ℕ) (i : ℕ) → (entryOk image i && bodyOk (versionOf image) (bodyOf image i)) ≡ true → ValidEntry image i
+unfolding entryOk
+valid-entry image i e =
+    record {
+      spi = between 1 (spiOf image i) 65534 (search (and-left, and-right));
+      rises = ltb-true (spiBefore image i) (spiOf image i) (search (and-left, and-right));
+      position = eqb-true (positionOf image i) (bodyAt image i) (search (and-left, and-right));
+      body = valid-body (versionOf image) (bodyOf image i) (search (and-left, and-right));
+    }
+
+pub valid-laid : (image : List ℕ) → validImage image ≡ true → laidOut image ≡ true
+unfolding validImage
+valid-laid image e = search and-left
+
+pub valid : (image : List ℕ) → validImage image ≡ true → Valid image
+unfolding validImage
+valid image e =
+    let ruled : ℕ → Bool = λ i. entryOk image i && bodyOk (versionOf image) (bodyOf image i) in
+    record {
+      laid = laid-out image (valid-laid image e);
+      entry = λ i h. valid-entry image i (all-at (countOf image) ruled (and-right (laidOut image) (all (countOf image) ruled) e) i h);
+    }
+
+-- the mark of an entry is below 2 ^ 26
+pub mark-small : (image : List ℕ) → Valid image → (i : ℕ) → i < countOf image → markIn image i < 2 ^ 26
+unfolding markIn
+mark-small image v i h = v .entry i h .body .mark
+
+-- ---- the SPIs rise, so none stands twice
+
+spi-next : (image : List ℕ) → Valid image → (i : ℕ) → suc i < countOf image → spiOf image i < spiOf image (suc i)
+spi-next image v i h =
+    let here : suc i - 1 ≡ i = omega arith in
+    rw (eqb·suc-zero i, here) at (v .entry (suc i) h .rises)
+
+-- a later entry has a greater SPI
+pub spi-rises : (image : List ℕ) → Valid image → (i j : ℕ) → i < j → j < countOf image → spiOf image i < spiOf image j
+spi-rises image v i zero l h = absurd (omega arith)
+spi-rises image v i (suc j) l h = by-place (decLt i j) (λ m. spi-rises image v i j m (omega arith))
+  where
+    by-place : Dec (i < j) → (i < j → spiOf image i < spiOf image j) → spiOf image i < spiOf image (suc j)
+    by-place (yes m) before = omega (arith, before m, spi-next image v j h)
+    by-place (no g) before = let e : i ≡ j = omega arith in rw e (spi-next image v j h)
+
+-- entries with the same SPI are the same
+pub spi-once : (image : List ℕ) → Valid image → (i j : ℕ) → i < countOf image → j < countOf image → spiOf image i ≡ spiOf image j → i ≡ j
+spi-once image v i j hi hj e = by-place (decLt i j) (decLt j i)
+  where
+    by-place : Dec (i < j) → Dec (j < i) → i ≡ j
+    by-place (yes l) d = absurd (omega (arith, spi-rises image v i j l hj))
+    by-place (no g) (yes l) = absurd (omega (arith, spi-rises image v j i l hi))
+    by-place (no g) (no k) = omega arith

@@ -1,0 +1,95 @@
+-- Document 01, 'The image': a table of contents, then the bodies; where its parts stand, and every rule of it as one test, answer 1.
+-- Assumes nothing.
+use Prim.Native.Nat.{ℕ, _+_, _-_, _*_}
+use mathlib.Core.Bool.{Bool, cond, _&&_}
+use mathlib.Core.List.{List}
+use lib.Dec.{eqb, leb, ltb}
+use lib.ListN.{length}
+use Rattle.octets.specs.Lists.{octet, part, all}
+use Rattle.octets.specs.Numbers.{numberAt}
+use Rattle.bodies.specs.Body.{bodyIn, markOf, bodyOk}
+use Rattle.bodies.specs.Layout.{keyLength, mostBody, mostExtra, layoutOf, versionOk}
+use Rattle.bodies.specs.declared.layout.Layout.{Layout}
+
+-- ---- octets 0 and 1
+
+abbrev pub versionOf : List ℕ → ℕ
+versionOf image = octet image 0
+
+-- how many entries the contents have, and how many they may have
+abbrev pub countOf : List ℕ → ℕ
+countOf image = octet image 1
+
+abbrev pub mostEntries : ℕ
+mostEntries = 32
+
+-- ---- the contents: entries of four octets, SPI and position
+
+abbrev pub entryPlace : ℕ → ℕ
+entryPlace i = 2 + 4 * i
+
+abbrev pub spiOf : List ℕ → ℕ → ℕ
+spiOf image i = numberAt (entryPlace i) 2 image
+
+abbrev pub positionOf : List ℕ → ℕ → ℕ
+positionOf image i = numberAt (entryPlace i + 2) 2 image
+
+-- ---- the bodies
+
+abbrev pub layout : List ℕ → Layout
+layout image = layoutOf (versionOf image)
+
+-- where body i stands in an image of k entries: the bodies begin behind the contents, and behind the last body the image ends
+abbrev pub bodyPlace : Layout → ℕ → ℕ → ℕ
+bodyPlace l k i = entryPlace (k + l .extra) + l .body * i
+
+-- no body stands behind this place, whatever octet counts the entries
+abbrev pub farthest : ℕ
+farthest = entryPlace (255 + mostExtra) + mostBody * 255
+
+unfoldable pub bodyAt : List ℕ → ℕ → ℕ
+bodyAt image i = bodyPlace (layout image) (countOf image) i
+
+unfoldable pub bodyOf : List ℕ → ℕ → List ℕ
+bodyOf image i = bodyIn image (versionOf image) (bodyAt image i)
+
+-- where the mark of entry i stands, and the mark
+unfoldable pub markAt : List ℕ → ℕ → ℕ
+markAt image i = bodyAt image i + layout image .mark
+
+unfoldable pub markIn : List ℕ → ℕ → ℕ
+markIn image i = markOf (versionOf image) (bodyOf image i)
+
+-- where the key of entry i stands, and the key
+unfoldable pub keyAt : List ℕ → ℕ → ℕ
+keyAt image i = bodyAt image i + layout image .key
+
+unfoldable pub keyOf : List ℕ → ℕ → List ℕ
+keyOf image i = part (keyAt image i) keyLength image
+
+-- ---- the rules
+
+unfoldable pub imageSize : List ℕ → ℕ
+imageSize image = bodyPlace (layout image) (countOf image) (countOf image)
+
+-- version, count, and exactly the size that they ask for
+unfoldable pub laidOut : List ℕ → Bool
+laidOut image =
+    versionOk (versionOf image)
+    && leb (countOf image) mostEntries
+    && eqb (length image) (imageSize image)
+
+-- the SPI of the entry before, and 0 before the first
+abbrev pub spiBefore : List ℕ → ℕ → ℕ
+spiBefore image i = cond (eqb i 0) 0 (spiOf image (i - 1))
+
+-- an SPI from 1 to 65,534 above the one before, and the position of the entry's body
+unfoldable pub entryOk : List ℕ → ℕ → Bool
+entryOk image i =
+    leb 1 (spiOf image i)
+    && leb (spiOf image i) 65534
+    && ltb (spiBefore image i) (spiOf image i)
+    && eqb (positionOf image i) (bodyAt image i)
+
+unfoldable pub validImage : List ℕ → Bool
+validImage image = laidOut image && all (countOf image) (λ i. entryOk image i && bodyOk (versionOf image) (bodyOf image i))

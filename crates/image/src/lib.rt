@@ -1,0 +1,13 @@
+// Document 01, 'The image': a list of octets that the caller lends. An entry is named by its index in the contents, counted from 0. Every
+// function answers for every image: what lies past its end reads as 0.
+mod image;
+
+pub use image::body_at;
+pub use image::count_of;
+pub use image::image_ok;
+pub use image::key_of;
+pub use image::laid_out;
+pub use image::mark_at;
+pub use image::mark_in;
+pub use image::spi_of;
+pub use image::version_of;

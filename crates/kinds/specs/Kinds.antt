@@ -1,0 +1,139 @@
+-- Document 01, 'Frames' and 'The image': the frame kinds. Everything that the paper says of one kind stands in its record, and nothing else
+-- names a kind's numbers.
+-- Assumes nothing.
+use Prim.Native.Nat.{ℕ}
+use mathlib.Core.Bool.{Bool, true, false, cond}
+use mathlib.Core.List.{List}
+use lib.Dec.{eqb, ltb}
+use Rattle.headers.specs.Fields.{tcSpacecraft, tcChannel, segmentMap, tmSpacecraft, tmChannel}
+use Rattle.headers.specs.Telecommand.{tcRules, tcLengthOk, tcHoldsLength, tcWithLength}
+use Rattle.headers.specs.Telemetry.{tmRules, tmTrailer}
+use Rattle.kinds.specs.declared.kinds.Kind as code
+use Rattle.kinds.specs.declared.kinds.Kind.the-variants as kind
+use Rattle.kinds.specs.declared.kinds.Named.{Named}
+use Rattle.kinds.specs.declared.kinds.Named.the-variants as answer
+use Rattle.kinds.specs.declared.kinds.Rewritten.{Rewritten}
+use Rattle.kinds.specs.declared.kinds.Rewritten.the-variants as rewriting
+
+pub record Kind : Type 0 where
+  -- the rules on the bits of the header
+  pub rules : List ℕ → Bool
+  -- h, the octets of the header; f, those behind the MAC; and the most octets that a frame may have
+  pub header : List ℕ → ℕ
+  pub trailer : List ℕ → ℕ
+  pub largest : ℕ
+  -- the octets of the header that the mask covers, whatever the frame
+  pub underMask : ℕ
+  -- whether the length field is right; whether octets reach over it; and a header, or a frame, with the field rewritten for a frame of n octets
+  pub lengthOk : List ℕ → Bool
+  pub holdsLength : List ℕ → Bool
+  pub withLength : ℕ → List ℕ → List ℕ
+  -- the identifiers, and the most that the image may ask of each
+  pub spacecraft : List ℕ → ℕ
+  pub channel : List ℕ → ℕ
+  pub map : List ℕ → ℕ
+  pub mostSpacecraft : ℕ
+  pub mostChannel : ℕ
+  pub mostMap : ℕ
+
+-- ---- TC
+
+-- what both TC kinds have, over the octets of the header, the MAP and the most that the image may ask of it
+abbrev pub telecommand : ℕ → (List ℕ → ℕ) → ℕ → Kind
+telecommand h map most =
+    record {
+      rules = tcRules;
+      header = λ frame. h;
+      trailer = λ frame. 0;
+      largest = 1024;
+      underMask = h;
+      lengthOk = tcLengthOk;
+      holdsLength = tcHoldsLength;
+      withLength = tcWithLength;
+      spacecraft = tcSpacecraft;
+      channel = tcChannel;
+      map = map;
+      mostSpacecraft = 1023;
+      mostChannel = 63;
+      mostMap = most;
+    }
+
+abbrev pub tc : Kind
+tc = telecommand 5 (λ frame. 0) 0
+
+-- with a segment header: one octet more, which holds the MAP
+abbrev pub segmentedTc : Kind
+segmentedTc = telecommand 6 segmentMap 63
+
+-- ---- TM: there is no length field
+
+abbrev pub tm : Kind
+tm =
+    record {
+      rules = tmRules;
+      header = λ frame. 6;
+      trailer = tmTrailer;
+      largest = 2048;
+      underMask = 6;
+      lengthOk = λ frame. true;
+      holdsLength = λ s. false;
+      withLength = λ n s. s;
+      spacecraft = tmSpacecraft;
+      channel = tmChannel;
+      map = λ frame. 0;
+      mostSpacecraft = 1023;
+      mostChannel = 7;
+      mostMap = 0;
+    }
+
+-- ---- no kind: no frame obeys it
+
+abbrev pub noKind : Kind
+noKind =
+    record {
+      rules = λ frame. false;
+      header = λ frame. 0;
+      trailer = λ frame. 0;
+      largest = 0;
+      underMask = 0;
+      lengthOk = λ frame. false;
+      holdsLength = λ s. false;
+      withLength = λ n s. s;
+      spacecraft = λ frame. 0;
+      channel = λ frame. 0;
+      map = λ frame. 0;
+      mostSpacecraft = 0;
+      mostChannel = 0;
+      mostMap = 0;
+    }
+
+-- whether frames of a kind have a MAP: the image may then ask for another than 0
+abbrev pub hasMap : Kind → Bool
+hasMap k = ltb 0 (k .mostMap)
+
+-- what comes back of rewriting: the field was rewritten, or there is none
+abbrev pub rewritten : Bool → Rewritten
+rewritten true = rewriting.Field
+rewritten false = rewriting.Nothing
+
+-- ---- the kind that the caller names by its number
+
+-- what the paper says of each kind of the code
+abbrev pub kindIs : code.Kind → Kind
+kindIs kind.Tc = tc
+kindIs kind.SegmentedTc = segmentedTc
+kindIs kind.Tm = tm
+
+-- 1 TC without segment header, 2 TC with it, 3 TM; another number names none
+unfoldable pub named : ℕ → Named
+named number =
+    cond (eqb number 1) (answer.Kind kind.Tc)
+    (cond (eqb number 2) (answer.Kind kind.SegmentedTc)
+    (cond (eqb number 3) (answer.Kind kind.Tm) answer.Nothing))
+
+abbrev pub kindBehind : Named → Kind
+kindBehind (answer.Kind k) = kindIs k
+kindBehind answer.Nothing = noKind
+
+abbrev pub kindOf : ℕ → Kind
+kindOf number = kindBehind (named number)

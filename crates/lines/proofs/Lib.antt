@@ -1,0 +1,4 @@
+mod DecimalLaws
+mod FieldLaws
+mod HexadecimalLaws
+mod InputLaws

@@ -1,0 +1,4 @@
+pub mod Fields
+pub mod Hexadecimal
+pub mod Decimal
+pub mod Input

@@ -1,0 +1,3 @@
+pub mod GrayCode
+pub mod Made
+pub mod RaisedMarks

@@ -1,0 +1,180 @@
+-- The definitions' record of a kind says what the promises' form of it says: for each kind once, and for any number that names one or none.
+-- Assumes nothing.
+use Prim.Native.Nat.{ℕ, _+_, _-_, _*_, _/_, _%_, _≤_, _<_}
+use mathlib.Core.Path.{_≡_, refl, ap, ap₂, _∙_}
+use mathlib.Core.Bool.{Bool, true, false, cond, _&&_}
+use mathlib.Core.List.{List}
+use native.Mathlib.Decide.{ℕ-discrete}
+use native.Mathlib.Omega.{arith}
+use borrow.Author.Tests.{eqb-true, eq-eqb, ne-eqb, lt-ltb}
+use lib.Dec.{eqb}
+use lib.ListN.{length, take, set, length-set}
+use lib.Seq.{getD-set-same, getD-set-other, getD-take, length-take-le, ext-getD}
+use Rattle.octets.specs.Lists.{octet}
+use Rattle.octets.proofs.Alls.{and-left, and-right}
+use Rattle.octets.proofs.Rules.{length-tab, octet-tab}
+use Rattle.headers.specs.Telecommand.{tcRules, tcLengthOk, tcWithLength}
+use Rattle.kinds.specs.Kinds.{Kind, telecommand, tm, noKind, kindBehind, kindOf, named}
+use Rattle.frame.specs.Masked.{masked}
+use Rattle.kinds.specs.declared.kinds.Kind.the-variants as kind
+use Rattle.kinds.specs.declared.kinds.Named.the-variants as answer
+use Rattle.frame.proofs.Masking.{octet-reached, length-masked}
+use Rattle.promises.specs.Forms.{Form, TcHeader, tcSecuredOctet, tcForm}
+use Rattle.promises.specs.Forms.{plainTcForm, segmentedTcForm, tmForm, noForm, formOf, underMask}
+
+pub record Describes (f : Form) (k : Kind) : Type 0 where
+  -- the rules on the header, both ways
+  pub tested : (frame : List ℕ) → f .Header frame → (k .rules frame ≡ true) × (k .lengthOk frame ≡ true)
+  pub kept : (frame : List ℕ) → k .rules frame ≡ true → k .lengthOk frame ≡ true → f .Header frame
+  pub header : (frame : List ℕ) → f .header frame ≡ k .header frame
+  pub trailer : (frame : List ℕ) → f .trailer frame ≡ k .trailer frame
+  pub largest : f .largest ≡ k .largest
+  -- the header that goes out
+  pub copied : (n : ℕ) (clear : List ℕ) (j : ℕ) → n ≤ k .largest → k .header clear ≤ length clear → j < k .header clear
+      → octet (k .withLength n (take (k .header clear) clear)) j ≡ f .securedOctet n clear j
+  pub spacecraft : (frame : List ℕ) → f .spacecraft frame ≡ k .spacecraft frame
+  pub channel : (frame : List ℕ) → f .channel frame ≡ k .channel frame
+  pub map : (frame : List ℕ) → f .map frame ≡ k .map frame
+  pub mostSpacecraft : f .mostSpacecraft ≡ k .mostSpacecraft
+  pub mostChannel : f .mostChannel ≡ k .mostChannel
+  pub mostMap : f .mostMap ≡ k .mostMap
+  -- the mask of six octets reaches over the header
+  pub short : (frame : List ℕ) → k .header frame ≤ 6
+
+-- ---- TC, over the header's length
+
+tc-tested : (frame : List ℕ) → TcHeader frame → (tcRules frame ≡ true) × (tcLengthOk frame ≡ true)
+tc-tested frame t = (
+  ap₂ _&&_ (ap₂ _&&_ (eq-eqb _ 0 (t .version)) (eq-eqb _ 0 (t .control))) (eq-eqb _ 0 (t .spare)),
+  eq-eqb _ (length frame) (t .lengthField),
+)
+
+tc-kept : (frame : List ℕ) → tcRules frame ≡ true → tcLengthOk frame ≡ true → TcHeader frame
+tc-kept frame rules counted =
+    record {
+      version = eqb-true (octet frame 0 / 64) 0 (search (and-left, and-right));
+      control = eqb-true (octet frame 0 / 16 % 2) 0 (search (and-left, and-right));
+      spare = eqb-true (octet frame 0 / 4 % 4) 0 (search and-right);
+      lengthField = eqb-true (octet frame 2 % 4 * 256 + octet frame 3 + 1) (length frame) counted;
+    }
+
+module _ (h n : ℕ) (clear : List ℕ) (five : 5 ≤ h) (small : n ≤ 1024) (fits : h ≤ length clear) where
+  abbrev head : List ℕ
+  head = take h clear
+
+  -- what rewriting the length stores in octets 2 and 3
+  abbrev two : ℕ
+  two = octet head 2 / 4 * 4 + (n - 1) / 256 % 4
+
+  abbrev three : ℕ
+  three = (n - 1) % 256
+
+  long : length head ≡ h
+  long = length-take-le h clear fits
+
+  stored-octets : tcWithLength n head ≡ set (set head 2 two) 3 three
+  unfolding tcWithLength
+  stored-octets = let l = long in rw (lt-ltb 3 (length head) (omega arith))
+
+  tc-copied : (j : ℕ) → j < h → octet (tcWithLength n head) j ≡ tcSecuredOctet n clear j
+  tc-copied j below = ap (λ (s : List ℕ). octet s j) stored-octets ∙ by-place (ℕ-discrete j 2) (ℕ-discrete j 3)
+    where
+      by-place : Dec (j ≡ 2) → Dec (j ≡ 3) → octet (set (set head 2 two) 3 three) j ≡ tcSecuredOctet n clear j
+      by-place (yes p) q =
+          let l = long in
+          let high : (n - 1) / 256 % 4 ≡ (n - 1) / 256 = omega arith in
+          rw p
+          (getD-set-other (set head 2 two) 3 2 three 0 (omega arith)
+          ∙ getD-set-same head 2 two 0 (omega arith)
+          ∙ ap₂ (λ (x y : ℕ). x / 4 * 4 + y) (getD-take h clear 2 0 (omega arith)) high)
+      by-place (no p) (yes q) =
+          let l = long in
+          let m = length-set head 2 two in
+          rw q (getD-set-same (set head 2 two) 3 three 0 (omega arith))
+      by-place (no p) (no q) =
+          rw (ne-eqb j 2 p, ne-eqb j 3 q)
+          (getD-set-other (set head 2 two) 3 j three 0 q ∙ getD-set-other head 2 j two 0 p ∙ getD-take h clear j 0 below)
+
+tc-describes : (h most : ℕ) (map : List ℕ → ℕ) → 5 ≤ h → h ≤ 6 → Describes (tcForm h map most) (telecommand h map most)
+tc-describes h most map five six =
+    record {
+      tested = tc-tested;
+      kept = tc-kept;
+      header = λ frame. refl;
+      trailer = λ frame. refl;
+      largest = refl;
+      copied = λ n clear j small fits below. tc-copied h n clear five small fits j below;
+      spacecraft = λ frame. refl;
+      channel = λ frame. refl;
+      map = λ frame. refl;
+      mostSpacecraft = refl;
+      mostChannel = refl;
+      mostMap = refl;
+      short = λ frame. six;
+    }
+
+-- ---- TM, and no kind
+
+tm-describes : Describes tmForm tm
+tm-describes =
+    record {
+      tested = λ frame t. (ap₂ _&&_ (eq-eqb _ 0 (t .version)) (eq-eqb _ 0 (t .secondary)), refl);
+      kept = λ frame rules counted.
+          record {
+            version = eqb-true (octet frame 0 / 64) 0 (search and-left);
+            secondary = eqb-true (octet frame 4 / 128) 0 (search and-right);
+          };
+      header = λ frame. refl;
+      trailer = λ frame. refl;
+      largest = refl;
+      copied = λ n clear j small fits below. getD-take 6 clear j 0 below;
+      spacecraft = λ frame. refl;
+      channel = λ frame. refl;
+      map = λ frame. refl;
+      mostSpacecraft = refl;
+      mostChannel = refl;
+      mostMap = refl;
+      short = λ frame. omega arith;
+    }
+
+none-describes : Describes noForm noKind
+none-describes =
+    record {
+      tested = λ frame t. absurd t;
+      kept = λ frame rules counted. let z : _≡_ {A = ℕ} 0 1 = cc in omega arith;
+      header = λ frame. refl;
+      trailer = λ frame. refl;
+      largest = refl;
+      copied = λ n clear j small fits below. absurd (omega arith);
+      spacecraft = λ frame. refl;
+      channel = λ frame. refl;
+      map = λ frame. refl;
+      mostSpacecraft = refl;
+      mostChannel = refl;
+      mostMap = refl;
+      short = λ frame. omega arith;
+    }
+
+-- ---- whatever the number names
+
+pub described : (number : ℕ) → Describes (formOf number) (kindOf number)
+unfolding formOf named
+described number = by-test (eqb number 1) (eqb number 2) (eqb number 3)
+  where
+    by-test : (a b c : Bool)
+        → Describes (cond a plainTcForm (cond b segmentedTcForm (cond c tmForm noForm)))
+        (kindBehind (cond a (answer.Kind kind.Tc) (cond b (answer.Kind kind.SegmentedTc) (cond c (answer.Kind kind.Tm) answer.Nothing))))
+    by-test true b c = tc-describes 5 0 (λ frame. 0) (omega arith) (omega arith)
+    by-test false true c = tc-describes 6 63 (λ frame. octet frame 5 % 64) (omega arith) (omega arith)
+    by-test false false true = tm-describes
+    by-test false false false = none-describes
+
+-- ---- the mask, where it reaches over the header
+
+pub under-mask : (mask header : List ℕ) → length header ≤ length mask → masked mask header ≡ underMask mask header
+under-mask mask header reaches =
+    let long = length-masked mask header in
+    ext-getD 0 (masked mask header) (underMask mask header) (simp (length-masked, length-tab))
+    (λ i below.
+    let inside : i < length header = omega arith in
+    rw octet-tab (octet-reached mask header i (omega arith)))

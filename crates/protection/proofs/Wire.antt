@@ -1,0 +1,208 @@
+-- What a secured frame is to its reader: it has the length that was promised, obeys its kind, keeps the clear frame's identifiers, and
+-- holds the SPI, the number, a right MAC and the clear data, under any service and any kind.
+-- Assumes nothing.
+use Prim.Native.Nat.{ℕ, _+_, _^_, _≤_, _<_}
+use mathlib.Core.Path.{_≡_, refl, sym, ap, ap₂, _∙_}
+use mathlib.Core.Bool.{true, false}
+use mathlib.Core.List.{List, _++_, append-assoc}
+use native.Mathlib.Omega.{arith}
+use borrow.Author.Tests.{le-ltb}
+use lib.ListN.{length, take, drop, length-append}
+use lib.Seq.{slice, drop-at, getD-drop, getD-take}
+use Rattle.octets.specs.Lists.{octet}
+use Rattle.octets.specs.Numbers.{number, numberAt, bytes}
+use Rattle.octets.proofs.Numbers.{length-bytes, number-bytes, number-front, number-same}
+use Rattle.octets.proofs.Sameness.{same-refl}
+use Rattle.kinds.specs.Kinds.{Kind}
+use Rattle.frame.specs.Parts as parts
+use Rattle.frame.specs.Parts.{headerOf, trailerOf, securityOf, securedContent, macOf, tooShort}
+use Rattle.frame.specs.Rules.{obeys}
+use Rattle.frame.proofs.Assembled as assembled
+use Rattle.kinds.proofs.Kept as frames
+use Rattle.kinds.proofs.Kept.{Kept, built}
+use Rattle.frame.proofs.Rebuilt.{obeys-again}
+use Rattle.frame.proofs.Room.{Obeys, obeyed, length-header, length-trailer}
+use Rattle.association.specs.declared.held.Held.{Held}
+use Rattle.protection.specs.Protection.{serviceIn, securityLength, fieldFor, numberFrom, coveredBefore, securedLength, securedFrame}
+use Rattle.protection.specs.Protection.{coveredIn, spiIn, fieldIn, textIn, numberIn, macRight, clearData, clearLength}
+use Rattle.protection.proofs.ServiceLaws.{Lawful, lawful}
+
+-- ---- where a reader finds the number, in any frame
+
+pub number-read : (h : Held) (k : Kind) (frame : List ℕ) → numberIn h k frame ≡ numberAt (k .header frame + 2) (serviceIn h .field) frame
+unfolding numberIn fieldIn securityOf
+number-read h k frame =
+    let a : ℕ = k .header frame in
+    let b : ℕ = a + securityLength h in
+    number-same (serviceIn h .field) (drop 2 (slice a b frame)) (drop (a + 2) frame)
+    (λ i l.
+    let z : a + (2 + i) ≡ a + 2 + i = omega arith in
+    getD-drop 2 (slice a b frame) i 0
+    ∙ getD-drop a (take b frame) (2 + i) 0
+    ∙ getD-take b frame (a + (2 + i)) 0 (omega arith)
+    ∙ ap (octet frame) z
+    ∙ sym (getD-drop (a + 2) frame i 0))
+
+-- ---- the parts, as securing makes them
+
+abbrev pub head : Held → Kind → List ℕ → List ℕ
+head h k clear = k .withLength (securedLength h clear) (headerOf k clear)
+
+abbrev pub security : Held → ℕ → ℕ → List ℕ
+security h spi n = bytes 2 spi ++ fieldFor h n
+
+abbrev pub text : Held → Kind → ℕ → List ℕ → List ℕ
+text h k n clear = serviceIn h .goingOut (h .key) (fieldFor h n) (parts.clearContent k clear)
+
+abbrev pub mac : Held → Kind → ℕ → ℕ → List ℕ → List ℕ
+mac h k spi n clear =
+    serviceIn h .mac (h .key) (fieldFor h n) (coveredBefore h (head h k clear) (security h spi n)) (text h k n clear)
+
+pub length-security : (h : Held) (spi n : ℕ) → length (security h spi n) ≡ securityLength h
+length-security h spi n = length-append (bytes 2 spi) (fieldFor h n) ∙ ap₂ _+_ (length-bytes 2 spi) (length-bytes (serviceIn h .field) n)
+
+pub length-text : (h : Held) (k : Kind) (n : ℕ) (clear : List ℕ) → length (text h k n clear) ≡ length (parts.clearContent k clear)
+length-text h k n clear = lawful (h .service) .lengthOut (h .key) (fieldFor h n) (parts.clearContent k clear)
+
+pub length-mac : (h : Held) (k : Kind) (spi n : ℕ) (clear : List ℕ) → length (mac h k spi n clear) ≡ 16
+length-mac h k spi n clear =
+    lawful (h .service) .lengthMac (h .key) (fieldFor h n) (coveredBefore h (head h k clear) (security h spi n)) (text h k n clear)
+
+module _ (h : Held) (k : Kind) (law : frames.Lawful k) (clear : List ℕ) (room : k .header clear + k .trailer clear ≤ length clear) where
+  pub length-head : length (head h k clear) ≡ k .header clear
+  length-head = law .long (securedLength h clear) (headerOf k clear) ∙ length-header k clear room
+
+  pub length-whole : (spi n : ℕ) → length (securedFrame h k spi n clear) ≡ securedLength h clear
+  unfolding securedFrame
+  length-whole spi n =
+      assembled.length-securing k clear (head h k clear) (security h spi n) (text h k n clear) (mac h k spi n clear) room length-head
+      (length-text h k n clear) (length-mac h k spi n clear)
+      ∙ ap (λ (s : ℕ). parts.securedLength s clear) (length-security h spi n)
+
+-- ---- a secured frame, under any lawful kind
+
+module _ (h : Held) (k : Kind) (lawfully : frames.Lawful k) (spi n : ℕ) (clear : List ℕ) (obeying : obeys k clear false ≡ true)
+    (small : securedLength h clear ≤ k .largest) where
+  abbrev S : List ℕ
+  S = securedFrame h k spi n clear
+
+  ok : Obeys k clear false
+  ok = obeyed k clear false obeying
+
+  law : Lawful (serviceIn h)
+  law = lawful (h .service)
+
+  room : k .header clear + k .trailer clear ≤ length clear
+  room = omega (arith, ok .room)
+
+  rest : List ℕ
+  rest = security h spi n ++ (text h k n clear ++ (mac h k spi n clear ++ trailerOf k clear))
+
+  shape : S ≡ head h k clear ++ rest
+  unfolding securedFrame rest
+  shape = refl
+
+  long-mac : length (mac h k spi n clear) ≡ 16
+  long-mac = length-mac h k spi n clear
+
+  pub length-secured : length S ≡ securedLength h clear
+  length-secured = length-whole h k lawfully clear room spi n
+
+  shape-built : S ≡ built k (securedLength h clear) clear rest
+  unfolding headerOf
+  shape-built = shape
+
+  long-built : length (built k (securedLength h clear) clear rest) ≡ securedLength h clear
+  long-built = ap length (sym shape-built) ∙ length-secured
+
+  pub kept : Kept k clear S
+  kept =
+      rw shape-built
+      (lawfully .keeps (securedLength h clear) clear rest (ok .rules) (omega (arith, room)) long-built (omega arith) small)
+
+  pub obeys-secured : obeys k S true ≡ true
+  obeys-secured =
+      rw shape-built (obeys-again k lawfully (securedLength h clear) clear rest false true obeying long-built small (omega (arith, ok .room)))
+
+  -- ---- the parts, as a reader cuts them out
+
+  at-head : length (head h k clear) ≡ k .header S
+  at-head = length-head h k lawfully clear room ∙ sym (kept .header)
+
+  at-trailer : length (trailerOf k clear) ≡ k .trailer S
+  at-trailer = length-trailer k clear room ∙ sym (kept .trailer)
+
+  pub header-read : headerOf k S ≡ head h k clear
+  unfolding securedFrame
+  header-read =
+      assembled.header-read k (head h k clear) (security h spi n) (text h k n clear) (mac h k spi n clear) (trailerOf k clear) at-head
+      long-mac at-trailer
+
+  security-read : securityOf k (securityLength h) S ≡ security h spi n
+  unfolding securedFrame
+  security-read =
+      ap (λ (s : ℕ). securityOf k s S) (sym (length-security h spi n))
+      ∙ assembled.security-read k (head h k clear) (security h spi n) (text h k n clear) (mac h k spi n clear) (trailerOf k clear) at-head
+      long-mac at-trailer
+
+  pub text-read : textIn h k S ≡ text h k n clear
+  unfolding securedFrame textIn
+  text-read =
+      ap (λ (s : ℕ). securedContent k s S) (sym (length-security h spi n))
+      ∙ assembled.text-read k (head h k clear) (security h spi n) (text h k n clear) (mac h k spi n clear) (trailerOf k clear) at-head
+      long-mac at-trailer
+
+  mac-read : macOf k S ≡ mac h k spi n clear
+  unfolding securedFrame
+  mac-read =
+      assembled.mac-read k (head h k clear) (security h spi n) (text h k n clear) (mac h k spi n clear) (trailerOf k clear) at-head long-mac
+      at-trailer
+
+  pub trailer-read : trailerOf k S ≡ trailerOf k clear
+  unfolding securedFrame
+  trailer-read =
+      assembled.trailer-read k (head h k clear) (security h spi n) (text h k n clear) (mac h k spi n clear) (trailerOf k clear) at-head
+      long-mac at-trailer
+
+  pub field-read : fieldIn h k S ≡ fieldFor h n
+  unfolding fieldIn
+  field-read = ap (drop 2) security-read ∙ drop-at (bytes 2 spi) (fieldFor h n) 2 (length-bytes 2 spi)
+
+  -- ---- what it says
+
+  pub right-secured : macRight h k S ≡ true
+  unfolding macRight
+  right-secured = rw (coveredIn, header-read, security-read, field-read, text-read, mac-read) (same-refl (mac h k spi n clear))
+
+  pub number-secured : n < 2 ^ 32 → numberIn h k S ≡ n
+  unfolding numberIn
+  number-secured small-number = ap (numberFrom h) field-read ∙ number-bytes (serviceIn h .field) n (law .holds n small-number)
+
+  pub data-secured : clearData h k S ≡ parts.clearContent k clear
+  unfolding clearData
+  data-secured = ap₂ (serviceIn h .comingIn (h .key)) field-read text-read ∙ law .back (h .key) (fieldFor h n) (parts.clearContent k clear)
+
+  pub length-data : clearLength h k S ≡ length (parts.clearContent k clear)
+  unfolding clearLength
+  length-data = ap length text-read ∙ length-text h k n clear
+
+  pub not-short : tooShort k (securityLength h) S ≡ false
+  not-short =
+      let l = length-secured in
+      let a = kept .header in
+      let f = kept .trailer in
+      le-ltb (length S) (k .header S + securityLength h + 1 + 16 + k .trailer S) (omega (arith, ok .room))
+
+  pub spi-secured : spi < 2 ^ 16 → spiIn k S ≡ spi
+  unfolding rest
+  spi-secured small-spi =
+      ap (number 2) (ap (drop (k .header S)) shape ∙ drop-at (head h k clear) rest (k .header S) at-head ∙ append-assoc (bytes 2 spi) _ _)
+      ∙ number-front 2 (bytes 2 spi) _ (length-bytes 2 spi)
+      ∙ number-bytes 2 spi (omega arith)
+
+-- ---- what an association holds beside service, mask and key does not show in a frame
+
+pub alike-frame : (h g : Held) (k : Kind) (spi n : ℕ) (clear : List ℕ) → g .service ≡ h .service → g .mask ≡ h .mask → g .key ≡ h .key
+    → securedFrame h k spi n clear ≡ securedFrame g k spi n clear
+unfolding securedFrame coveredBefore
+alike-frame h g k spi n clear service mask key = cc

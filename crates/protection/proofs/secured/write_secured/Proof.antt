@@ -1,0 +1,231 @@
+-- `write_secured` is right because each piece goes behind those before it: the headers, the data as it goes out, the MAC and the trailer.
+-- Assumes nothing.
+use mathlib.Core.Path.{_≡_, sym, ap, ap₂, _∙_}
+use mathlib.Core.List.{List}
+use Prim.Native.Nat.{ℕ, _+_, _-_, _≤_}
+use native.Mathlib.Omega.{arith}
+use lib.ListN.{length, take, drop, length-take, length-drop}
+use lib.Seq.{slice, take-all, drop-at, take-at, length-take-le}
+use Rattle.octets.specs.Numbers.{bytes}
+use Rattle.octets.proofs.Numbers.{length-bytes}
+use Rattle.kinds.specs.Kinds.{kindIs}
+use Rattle.frame.specs.Parts as parts
+use Rattle.frame.specs.Parts.{trailerOf, clearContent, trailerStart}
+use Rattle.frame.specs.declared.parts.ClearParts.{ClearParts}
+use Rattle.kinds.proofs.Kept.{lawful-kind}
+use Rattle.octets.specs.Output.{written}
+use Rattle.protection.specs.Protection.{serviceIn, securityLength, securedLength, fieldFor}
+use Rattle.protection.specs.Steps.{textUnder}
+use Rattle.protection.proofs.Assembling as assembling
+use Rattle.protection.proofs.Assembling.{Securing}
+use Rattle.protection.proofs.Wire.{length-security}
+use Rattle.protection.proofs.Slices.{slice-as-part}
+use borrow.Author.Needs.{needs}
+use Rattle.protection.proofs.secured.write_secured.Statement.{statement}
+use Rattle.protection.proofs.secured.write_secured.Tie as tie
+
+-- ---- the places that are looked back to, and what is written there
+
+abbrev entry : tie.After-clear-parts → tie.Start
+entry c = c .before .before .before .before .before
+
+abbrev parts-at : tie.After-write-headers → tie.After-clear-parts
+parts-at c = c .before .before .before .before
+
+abbrev headers-at : tie.After-write-text → tie.After-write-headers
+headers-at c = c .before .before .before .before .before .before
+
+abbrev text-at : tie.After-put-behind → tie.After-write-text
+text-at c = c .before .before .before .before .before
+
+abbrev headers-in : tie.After-write-headers → List ℕ
+headers-in c = c .write-headers .last .1 .1 .1 .1 .0
+
+abbrev text-in : tie.After-write-text → List ℕ
+text-in c = c .write-text .last .1 .1 .1 .1 .0
+
+abbrev mac-in : tie.After-put-behind → List ℕ
+mac-in c = c .put-behind .last .1 .1 .0
+
+-- ---- the places of the parts, and the room there is
+
+record Measured (c : tie.After-clear-parts) : Type 0 where
+  header : c .clear-parts .result .header ≡ kindIs (entry c .args .kind) .header (entry c .args .frame .now)
+  content : c .clear-parts .result .content ≡ trailerStart (kindIs (entry c .args .kind)) (entry c .args .frame .now)
+  security : c .before .before .security-length .result ≡ securityLength (entry c .args .held)
+  short : c .before .before .security-length .result ≤ 14
+  parted : let k = kindIs (entry c .args .kind) in let f = entry c .args .frame .now in k .header f + k .trailer f ≤ length f
+  small : length (entry c .args .frame .now) ≤ 2048
+  roomy : securedLength (entry c .args .held) (entry c .args .frame .now) ≤ length (entry c .args .output .now)
+
+measured : (c : tie.After-clear-parts) → Measured c
+measured c =
+    record {
+      header = ap (λ (x : ClearParts). x .header) (c .clear-parts .ensures);
+      content = ap (λ (x : ClearParts). x .content) (c .clear-parts .ensures);
+      security = c .before .before .security-length .ensures .0;
+      short = search needs;
+      parted = search needs;
+      small = search needs;
+      roomy = search needs;
+    }
+
+abbrev securing : tie.After-clear-parts → Securing
+securing c =
+    let g = entry c .args in
+    record {
+      held = g .held;
+      kind = kindIs (g .kind);
+      law = lawful-kind (g .kind);
+      spi = g .spi;
+      number = g .n;
+      frame = g .frame .now;
+      out = g .output .now;
+      parted = measured c .parted;
+      roomy = measured c .roomy;
+    }
+
+-- ---- the security header, its field, the clear data and the trailer, as they are lent
+
+abbrev security-lent : tie.After-clear-parts → List ℕ
+security-lent c = take (c .before .before .security-length .result) (c .before .security-header .result)
+
+security-is : (c : tie.After-clear-parts) → security-lent c ≡ assembling.security (securing c)
+security-is c =
+    ap (λ (x : ℕ). take x (c .before .security-header .result)) (c .before .before .security-length .ensures .0)
+    ∙ ap (take (securityLength (entry c .args .held))) (c .before .security-header .ensures)
+    ∙ take-at (assembling.security (securing c)) _ (securityLength (entry c .args .held))
+    (length-security (entry c .args .held) (entry c .args .spi) (entry c .args .n))
+
+field-is : (c : tie.After-clear-parts) → drop 2 (security-lent c) ≡ fieldFor (entry c .args .held) (entry c .args .n)
+field-is c =
+    let g = entry c .args in
+    ap (drop 2) (security-is c) ∙ drop-at (bytes 2 (g .spi)) (fieldFor (g .held) (g .n)) 2 (length-bytes 2 (g .spi))
+
+abbrev clear-lent : tie.After-clear-parts → List ℕ
+clear-lent c = let p = c .clear-parts .result in take (p .content - p .header) (drop (p .header) (entry c .args .frame .now))
+
+clear-is : (c : tie.After-clear-parts) → clear-lent c ≡ clearContent (kindIs (entry c .args .kind)) (entry c .args .frame .now)
+unfolding clearContent
+clear-is c =
+    let p = c .clear-parts in
+    slice-as-part (p .result .header) (p .result .content) (entry c .args .frame .now)
+    ∙ ap (λ (x : ClearParts). slice (x .header) (x .content) (entry c .args .frame .now)) (p .ensures)
+
+abbrev trailer-lent : tie.After-clear-parts → List ℕ
+trailer-lent c =
+    let f = entry c .args .frame .now in
+    let content = c .clear-parts .result .content in
+    take (length f - content) (drop content f)
+
+trailer-is : (c : tie.After-clear-parts) → trailer-lent c ≡ trailerOf (kindIs (entry c .args .kind)) (entry c .args .frame .now)
+unfolding trailerOf
+trailer-is c =
+    let f = entry c .args .frame .now in
+    let content = c .clear-parts .result .content in
+    take-all (length f - content) (drop content f) (simp length-drop (omega arith))
+    ∙ ap (λ (x : ClearParts). drop (x .content) f) (c .clear-parts .ensures)
+
+-- ---- the headers
+
+slice-aggregate-write-headers : tie.Need-slice-aggregate-write-headers
+slice-aggregate-write-headers c = sym (length-take-le _ _ (omega (arith, measured (c .before .before))))
+
+write-headers-requires : tie.Need-write-headers-requires
+write-headers-requires c κs = let m = measured (c .before .before .before) in (omega (arith, m), rw length-take (omega (arith, m)))
+
+headed : (c : tie.After-write-headers) → let s = securing (parts-at c) in headers-in c ≡ written (assembling.headers s) (s .out)
+headed c =
+    let s = securing (parts-at c) in
+    let made = c .before .before .before .secured-length in
+    let size = made .ensures ∙ ap (λ (x : ℕ). parts.securedLength x (s .frame)) (measured (parts-at c) .security) in
+    assembling.with-headers s (made .result) (security-lent (parts-at c)) (headers-in c) size (security-is (parts-at c))
+    (c .write-headers .ensures)
+
+-- ---- the data and its MAC
+
+slice-aggregate-write-text : tie.Need-slice-aggregate-write-text
+slice-aggregate-write-text c = sym (length-take-le _ _ (omega (arith, measured (parts-at (c .before .before .before)))))
+
+sub-write-text : tie.Need-sub-write-text
+sub-write-text c = omega (arith, measured (parts-at (c .before .before .before)))
+
+part-write-text-start : tie.Need-part-write-text-start
+part-write-text-start c = omega (arith, measured (parts-at (c .before .before .before)))
+
+part-write-text-end : tie.Need-part-write-text-end
+part-write-text-end c = omega (arith, measured (parts-at (c .before .before .before)))
+
+write-text-requires : tie.Need-write-text-requires
+write-text-requires c κs =
+    let h = c .before .before .before .before .before in
+    let s = securing (parts-at h) in
+    let m = measured (parts-at h) in
+    let l = assembling.long-headers s (headers-in h) (headed h) in (
+      ap length (security-is (parts-at h)) ∙ length-security (s .held) (s .spi) (s .number),
+      rw (length-take, length-drop) (omega (arith, m)),
+      rw (assembling.header-place s (headers-in h) (headed h), length-take, length-drop) (omega (arith, m, l)),
+    )
+
+abbrev text-lent : tie.After-clear-parts → List ℕ
+text-lent c = textUnder (entry c .args .held) (security-lent c) (clear-lent c)
+
+text-is : (c : tie.After-clear-parts) → text-lent c ≡ assembling.text (securing c)
+text-is c = let g = entry c .args in ap₂ (serviceIn (g .held) .goingOut (g .held .key)) (field-is c) (clear-is c)
+
+texted : (c : tie.After-write-text) → let s = securing (parts-at (headers-at c)) in text-in c ≡ written (assembling.to-text s) (s .out)
+texted c =
+    let h = headers-at c in
+    assembling.with-text (securing (parts-at h)) (headers-in h) (headed h) (text-lent (parts-at h)) (text-in c) (text-is (parts-at h))
+    (c .write-text .ensures .1)
+
+signed : (c : tie.After-write-text) → c .write-text .result ≡ assembling.mac (securing (parts-at (headers-at c)))
+signed c =
+    let h = headers-at c in
+    let p = parts-at h in
+    assembling.mac-made (securing p) (headers-in h) (headed h) (drop 2 (security-lent p)) (text-lent p) (c .write-text .result) (field-is p)
+    (text-is p) (c .write-text .ensures .0)
+
+add-put-behind : tie.Need-add-put-behind
+add-put-behind c = record { fits = omega (arith, measured (parts-at (headers-at (c .before .before .before)))) }
+
+maced : (c : tie.After-put-behind) → let s = securing (parts-at (headers-at (text-at c))) in
+    mac-in c ≡ written (assembling.to-mac s) (s .out)
+maced c =
+    let t = text-at c in
+    let p = parts-at (headers-at t) in
+    let a = p .clear-parts .result .content + p .before .before .security-length .result in
+    assembling.with-mac (securing p) (text-in t) (texted t) (t .write-text .result) (mac-in c) (signed t) a
+    (ap₂ _+_ (measured p .content) (measured p .security)) (c .put-behind .ensures)
+
+-- ---- the trailer
+
+sub-put-behind : tie.Need-sub-put-behind
+sub-put-behind c = omega (arith, measured (parts-at (headers-at (text-at (c .before .before)))))
+
+part-put-behind-start : tie.Need-part-put-behind-start
+part-put-behind-start c = omega (arith, measured (parts-at (headers-at (text-at (c .before .before)))))
+
+add-put-behind-2 : tie.Need-add-put-behind-2
+add-put-behind-2 c = record { fits = omega (arith, measured (parts-at (headers-at (text-at (c .before .before .before))))) }
+
+add-put-behind-3 : tie.Need-add-put-behind-3
+add-put-behind-3 c = record { fits = omega (arith, measured (parts-at (headers-at (text-at (c .before .before .before))))) }
+
+returns : tie.Need-returns
+returns c =
+    let b = c .before .before .before .before .before .before .before in
+    let p = parts-at (headers-at (text-at b)) in
+    let a = p .clear-parts .result .content + p .before .before .security-length .result + 16 in
+    let last = c .before .before .put-behind2 in
+    assembling.with-trailer (securing p) (mac-in b) (maced b) (trailer-lent p) (last .last .1 .1 .0) (trailer-is p) a
+    (ap₂ (λ (x y : ℕ). x + y + 16) (measured p .content) (measured p .security)) (last .ensures)
+
+pub write-secured-spec : {M : Type 1} → statement M
+write-secured-spec =
+    tie.close
+    (tie.spec (λ c κs. search needs) (λ c κs. search needs) (λ c κs. search needs) (λ c. search needs) (λ c κs.
+    search needs) (λ c. search needs) slice-aggregate-write-headers write-headers-requires (λ c. search needs)
+    slice-aggregate-write-text sub-write-text part-write-text-start part-write-text-end write-text-requires (λ c. search
+    needs) add-put-behind (λ c κs. search needs) sub-put-behind part-put-behind-start (λ c. search needs)
+    add-put-behind-2 add-put-behind-3 (λ c κs. search needs) (λ c. search needs) returns)

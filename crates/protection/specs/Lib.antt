@@ -1,0 +1,3 @@
+pub mod Protection
+pub mod Services
+pub mod Steps

@@ -1,0 +1,81 @@
+-- Document 01, 'Frames': what securing makes of a clear frame, and what checking reads from a secured one, under what an association holds:
+-- service, mask and key. The MAC covers the header (each octet ANDed with the mask), the security header and the data; not the OCF.
+-- Assumes nothing.
+use Prim.Native.Nat.{ℕ, _+_}
+use mathlib.Core.Bool.{Bool}
+use mathlib.Core.List.{List, _++_}
+use lib.ListN.{length, drop}
+use Rattle.octets.specs.Numbers.{number, numberAt, bytes}
+use Rattle.octets.specs.Same.{same}
+use Rattle.kinds.specs.Kinds.{Kind}
+use Rattle.frame.specs.Masked.{masked}
+use Rattle.frame.specs.Parts as parts
+use Rattle.frame.specs.Parts.{headerOf, trailerOf, headerEnd, securityOf, macOf}
+use Rattle.association.specs.declared.held.Held.{Held}
+use Rattle.protection.specs.Services.{Service, service}
+
+-- ---- the security header: the SPI in two octets, then a field that holds the number
+
+abbrev pub serviceIn : Held → Service
+serviceIn h = service (h .service)
+
+abbrev pub securityLength : Held → ℕ
+securityLength h = 2 + serviceIn h .field
+
+-- the field that holds a number, and the number that a field holds
+abbrev pub fieldFor : Held → ℕ → List ℕ
+fieldFor h n = bytes (serviceIn h .field) n
+
+abbrev pub numberFrom : Held → List ℕ → ℕ
+numberFrom h field = number (serviceIn h .field) field
+
+-- ---- what the MAC covers before the data
+
+unfoldable pub coveredBefore : Held → List ℕ → List ℕ → List ℕ
+coveredBefore h header security = masked (h .mask) header ++ security
+
+-- read from a frame that has both headers
+abbrev pub coveredIn : Held → Kind → List ℕ → List ℕ
+coveredIn h k frame = coveredBefore h (headerOf k frame) (securityOf k (securityLength h) frame)
+
+-- ---- securing
+
+abbrev pub securedLength : Held → List ℕ → ℕ
+securedLength h clear = parts.securedLength (securityLength h) clear
+
+-- the secured frame of a clear one under an SPI and the number n; the length is rewritten before the MAC is made
+unfoldable pub securedFrame : Held → Kind → ℕ → ℕ → List ℕ → List ℕ
+securedFrame h k spi n clear =
+    let header = k .withLength (securedLength h clear) (headerOf k clear) in
+    let field = fieldFor h n in
+    let security = bytes 2 spi ++ field in
+    let text = serviceIn h .goingOut (h .key) field (parts.clearContent k clear) in
+    let mac = serviceIn h .mac (h .key) field (coveredBefore h header security) text in
+    header ++ (security ++ (text ++ (mac ++ trailerOf k clear)))
+
+-- ---- checking: what a secured frame holds
+
+-- the SPI stands first in the security header, whatever the service
+abbrev pub spiIn : Kind → List ℕ → ℕ
+spiIn k frame = numberAt (headerEnd k frame) 2 frame
+
+unfoldable pub fieldIn : Held → Kind → List ℕ → List ℕ
+fieldIn h k frame = drop 2 (securityOf k (securityLength h) frame)
+
+unfoldable pub textIn : Held → Kind → List ℕ → List ℕ
+textIn h k frame = parts.securedContent k (securityLength h) frame
+
+unfoldable pub numberIn : Held → Kind → List ℕ → ℕ
+numberIn h k frame = numberFrom h (fieldIn h k frame)
+
+-- whether the MAC that it holds is the right one, all sixteen octets of it
+unfoldable pub macRight : Held → Kind → List ℕ → Bool
+macRight h k frame =
+    same (serviceIn h .mac (h .key) (fieldIn h k frame) (coveredIn h k frame) (textIn h k frame)) (macOf k frame)
+
+-- the clear data; it is as long as the data that came in
+unfoldable pub clearData : Held → Kind → List ℕ → List ℕ
+clearData h k frame = serviceIn h .comingIn (h .key) (fieldIn h k frame) (textIn h k frame)
+
+unfoldable pub clearLength : Held → Kind → List ℕ → ℕ
+clearLength h k frame = length (textIn h k frame)

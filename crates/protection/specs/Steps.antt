@@ -1,0 +1,48 @@
+-- What the functions do on the way to a secured frame and back, for their own contracts: no definition of a frame cites this file.
+-- Assumes nothing.
+use Prim.Native.Nat.{ℕ, _+_, _≤_}
+use mathlib.Core.Path.{_≡_}
+use mathlib.Core.List.{List}
+use lib.ListN.{length, drop}
+use Rattle.key_schedule.specs.KeyExpansion.{keyExpansion}
+use Rattle.kinds.specs.Kinds.{Kind, kindIs}
+use Rattle.frame.specs.Parts.{securedParts}
+use Rattle.kinds.specs.declared.kinds.Kind as code
+use Rattle.association.specs.declared.held.Held.{Held}
+use Rattle.protection.specs.Protection.{serviceIn, securityLength, securedLength}
+use Rattle.protection.specs.declared.checked.Opening.{Opening}
+
+-- ---- under a security header: the data as it goes out, the clear data that comes back, and the MAC
+
+abbrev pub textUnder : Held → List ℕ → List ℕ → List ℕ
+textUnder h security clear = serviceIn h .goingOut (h .key) (drop 2 security) clear
+
+abbrev pub clearUnder : Held → List ℕ → List ℕ → List ℕ
+clearUnder h security text = serviceIn h .comingIn (h .key) (drop 2 security) text
+
+abbrev pub macUnder : Held → List ℕ → List ℕ → List ℕ → List ℕ
+macUnder h security before text = serviceIn h .mac (h .key) (drop 2 security) before text
+
+-- ---- a clear frame that has room for its parts, and an output for the secured one: answers 3, 11 and 6 are past
+
+pub record Securable (h : Held) (k : Kind) (frame : List ℕ) (room : ℕ) : Type 0 where
+  pub parted : k .header frame + k .trailer frame ≤ length frame
+  pub small : length frame ≤ 2048
+  pub roomy : securedLength h frame ≤ room
+
+-- ---- a secured frame, opened: what is made once of it
+
+abbrev pub openingOf : code.Kind → Held → List ℕ → Opening
+openingOf kind h frame =
+    record {
+      kind = kind;
+      held = h;
+      expanded = keyExpansion (h .key);
+      parts = securedParts (kindIs kind) (securityLength h) frame;
+    }
+
+-- it has room for its parts and one octet of data: answers 3 and 5 are past
+pub record Opens (o : Opening) (frame : List ℕ) : Type 0 where
+  pub opened : o ≡ openingOf (o .kind) (o .held) frame
+  pub parted : kindIs (o .kind) .header frame + securityLength (o .held) + 17 + kindIs (o .kind) .trailer frame ≤ length frame
+  pub small : length frame ≤ 2048

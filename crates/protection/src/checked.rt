@@ -1,0 +1,104 @@
+// Document 01, 'Frames': what a secured frame holds. The functions that read it ask for a frame that has room for its parts: answer 5 is past.
+use crate::cover::cover;
+use crate::sequence::Sequence;
+use crate::sequence::number_in;
+use crate::sequence::security_length;
+use crate::services::mac_is_right;
+use crate::services::release;
+use association::Held;
+use frame::SecuredParts;
+use frame::secured_parts;
+use key_schedule::expand_key;
+use kinds::Kind;
+use octets::block_at;
+ghost use mathlib.Core.Path.{_≡_};
+ghost use Prim.Native.Nat.{_+_, _*_, _≤_};
+ghost use lib.ListN.{length};
+ghost use Rattle.kinds.specs.Kinds.{kindIs};
+ghost use Rattle.octets.specs.Output.{written};
+ghost use Rattle.protection.specs.Protection.{numberIn, macRight, clearData, clearLength};
+ghost use Rattle.protection.specs.Steps.{openingOf, Opens};
+
+// What is made once of a secured frame: its kind, what protects it with its key expanded, and where its parts end.
+pub struct Opening {
+    pub kind: Kind,
+    pub held: Held,
+    pub expanded: [u8; 240],
+    pub parts: SecuredParts,
+}
+
+pub fn opening_of(kind: Kind, held: Held, frame: &[u8]) -> Opening
+    ensures { λ r. ⌜ r ≡ openingOf kind held (now (frame .entry)) ⌝ }
+{
+    let key = held.key;
+    let expanded = expand_key(key);
+    let parts = secured_parts(kind, security_length(held.service), frame);
+    Opening {
+        kind,
+        held,
+        expanded,
+        parts,
+    }
+}
+
+pub fn clear_length(opening: Opening, frame: &[u8]) -> usize
+    requires { ⌜ Opens opening (now frame) ⌝ }
+    ensures { λ r. ⌜ r ≡ clearLength (opening .held) (kindIs (opening .kind)) (now (frame .entry)) ⌝ }
+{
+    let parts = opening.parts;
+    parts.content - parts.security
+}
+
+pub fn number_of(opening: Opening, frame: &[u8]) -> Sequence
+    requires { ⌜ Opens opening (now frame) ⌝ }
+    ensures { λ r. ⌜ r .above * 4294967296 + r .number ≡ numberIn (opening .held) (kindIs (opening .kind)) (now (frame .entry)) ⌝ }
+{
+    let service = opening.held.service;
+    let header = opening.parts.header;
+    let security = opening.parts.security;
+    number_in(service, &frame[header..security])
+}
+
+// The whole MAC is compared, with no early exit.
+pub fn mac_right(opening: Opening, frame: &[u8]) -> bool
+    requires { ⌜ Opens opening (now frame) ⌝ }
+    ensures { λ r. ⌜ r ≡ macRight (opening .held) (kindIs (opening .kind)) (now (frame .entry)) ⌝ }
+{
+    let kind = opening.kind;
+    let held = opening.held;
+    let expanded = opening.expanded;
+    let mask = held.mask;
+    let header = opening.parts.header;
+    let security = opening.parts.security;
+    let content = opening.parts.content;
+    let mut before: [u8; 20] = [0; 20];
+    let covered = cover(kind, mask, security - header, frame, &mut before);
+    let mac = block_at(frame, content);
+    mac_is_right(
+        held,
+        &expanded,
+        &frame[header..security],
+        &before[..covered],
+        &frame[security..content],
+        mac,
+    )
+}
+
+// The clear data to the front of the output.
+pub fn release_data(opening: Opening, frame: &[u8], output: &mut [u8])
+    requires { ⌜ Opens opening (now frame) × (clearLength (opening .held) (kindIs (opening .kind)) (now frame) ≤ length (now output)) ⌝ }
+    ensures { λ _. ⌜ now (output .exit) ≡ written (clearData (opening .held) (kindIs (opening .kind)) (now (frame .entry))) (now (output .entry)) ⌝ }
+{
+    let held = opening.held;
+    let expanded = opening.expanded;
+    let header = opening.parts.header;
+    let security = opening.parts.security;
+    let content = opening.parts.content;
+    release(
+        held,
+        &expanded,
+        &frame[header..security],
+        &frame[security..content],
+        output,
+    );
+}

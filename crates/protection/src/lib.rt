@@ -1,0 +1,17 @@
+// Document 01, 'Frames': the two services, the security header, and the secured frame. What an association holds (service, mask, key) makes a
+// secured frame of a clear one, and reads a secured one. Nothing here knows images, numbers or answers.
+mod checked;
+mod cover;
+mod secured;
+mod sequence;
+mod services;
+
+pub use checked::Opening;
+pub use checked::clear_length;
+pub use checked::mac_right;
+pub use checked::number_of;
+pub use checked::opening_of;
+pub use checked::release_data;
+pub use secured::write_secured;
+pub use sequence::Sequence;
+pub use sequence::security_length;

@@ -1,0 +1,74 @@
+// Document 01, 'Frames': the secured frame, written to the front of the output piece behind piece.
+use crate::cover::cover;
+use crate::sequence::security_header;
+use crate::sequence::security_length;
+use crate::services::protect;
+use association::Held;
+use frame::clear_parts;
+use frame::secured_length;
+use kinds::Kind;
+use octets::put;
+use octets::put_behind;
+ghost use mathlib.Core.Path.{_≡_};
+ghost use mathlib.Core.List.{_++_};
+ghost use Prim.Native.Nat.{_+_, _≤_};
+ghost use lib.ListN.{length, take, drop};
+ghost use Rattle.kinds.specs.Kinds.{kindIs};
+ghost use Rattle.frame.specs.Parts.{headerOf};
+ghost use Rattle.octets.specs.Output.{written};
+ghost use Rattle.protection.specs.Protection.{securityLength, coveredIn, securedFrame};
+ghost use Rattle.protection.specs.Steps.{Securable, textUnder, macUnder};
+
+// A frame's header, its length rewritten for a frame of so many octets, and a security header.
+fn write_headers(kind: Kind, size: usize, security: &[u8], frame: &[u8], output: &mut [u8])
+    requires { ⌜ (kindIs kind .header (now frame) ≤ length (now frame)) × (kindIs kind .header (now frame) + length (now security) ≤ length (now output)) ⌝ }
+    ensures { λ _. ⌜ now (output .exit) ≡ written (kindIs kind .withLength size (headerOf (kindIs kind) (now (frame .entry))) ++ now (security .entry)) (now (output .entry)) ⌝ }
+{
+    let header = kind.header_length(frame);
+    put(&frame[..header], output);
+    kind.rewrite_length(&mut output[..header], size);
+    put_behind(security, header, output);
+}
+
+// The data as it goes out, behind the headers that stand in the output, and its MAC. What the MAC covers before the data is read from the
+// output, where the length is rewritten already.
+fn write_text(kind: Kind, held: Held, security: &[u8], clear: &[u8], output: &mut [u8]) -> [u8; 16]
+    requires { ⌜ (length (now security) ≡ securityLength held) × (length (now clear) ≤ 2048) × (kindIs kind .header (now output) + securityLength held + length (now clear) ≤ length (now output)) ⌝ }
+    ensures { λ r. ⌜ r ≡ macUnder held (now (security .entry)) (coveredIn held (kindIs kind) (now (output .entry))) (textUnder held (now (security .entry)) (now (clear .entry))) ⌝ }
+    ensures { λ _. ⌜ now (output .exit) ≡ take (kindIs kind .header (now (output .entry)) + securityLength held) (now (output .entry)) ++ written (textUnder held (now (security .entry)) (now (clear .entry))) (drop (kindIs kind .header (now (output .entry)) + securityLength held) (now (output .entry))) ⌝ }
+{
+    let mask = held.mask;
+    let mut before: [u8; 20] = [0; 20];
+    let covered = cover(kind, mask, security.len(), output, &mut before);
+    protect(
+        held,
+        security,
+        &before[..covered],
+        clear,
+        &mut output[covered..],
+    )
+}
+
+// The secured frame of a clear one.
+pub fn write_secured(kind: Kind, held: Held, spi: u16, n: u32, frame: &[u8], output: &mut [u8])
+    requires { ⌜ Securable held (kindIs kind) (now frame) (length (now output)) ⌝ }
+    ensures { λ _. ⌜ now (output .exit) ≡ written (securedFrame held (kindIs kind) spi n (now (frame .entry))) (now (output .entry)) ⌝ }
+{
+    let number = held.service;
+    let security = security_length(number);
+    let octets = security_header(number, spi, n);
+    let parts = clear_parts(kind, frame);
+    let header = parts.header;
+    let content = parts.content;
+    let long = security as usize;
+    write_headers(
+        kind,
+        secured_length(security, frame),
+        &octets[..long],
+        frame,
+        output,
+    );
+    let mac = write_text(kind, held, &octets[..long], &frame[header..content], output);
+    put_behind(&mac, content + long, output);
+    put_behind(&frame[content..], content + long + 16, output);
+}

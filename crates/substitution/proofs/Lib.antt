@@ -1,0 +1,4 @@
+pub mod Examples
+pub mod Inverse
+pub mod Products
+pub mod Small
