@@ -1,28 +1,18 @@
 # shellcheck shell=sh
-# What the benchmarks share: where the programs run, how they are built, and how a run is timed. A script that reads this file stands in the
-# repository's root. Files of a run go to $room.
+# What the benchmarks share: how the programs are built, and how a run is timed. A script that reads this file stands in the repository's
+# root. Files of a run go to $room.
+root=$(pwd)
+. "$root/tests/lib.sh"
+help_if_asked "$root/bench/$(basename "$0")" "$@"
+[ "$(uname -m)" = x86_64 ] || fail "The toolchain compiles programs for x86-64 alone, and what an emulator takes says nothing; this is $(uname -m)."
+need_compiler
 room=$(mktemp -d)
 trap 'rm -rf "$room"' EXIT
 
-case $(uname -m) in
-x86_64)
-    compiler=cc emulator=
-    echo "All programs run on this processor."
-    ;;
-aarch64)
-    # Rattle compiles for x86-64, and so the C program is compiled for it too: all run under the emulator that rt uses.
-    compiler=x86_64-linux-gnu-gcc
-    emulator="$(dirname "$(readlink -f "$(command -v rt)")")/../on/aarch64/toolchain/bin/qemu-x86_64"
-    echo "All programs are x86-64 ones and run under an emulator: a ratio under emulation is not one of real hardware."
-    ;;
-*)
-    echo "no x86-64 program runs on $(uname -m)" >&2
-    exit 1
-    ;;
-esac
-
 # Builds the programs `rattle`, of crates/cipher_bench, and `openssl`.
 build() { # SOURCE-IN-C
+    command -v rt >/dev/null || fail "The Rattle toolchain (rt), which makes the program, is not on the path."
+    need_openssl
     rt check cipher_bench >"$room/check" 2>&1 || {
         cat "$room/check" >&2
         exit 1
@@ -34,7 +24,7 @@ build() { # SOURCE-IN-C
 run() { # PROGRAM ARGUMENT..
     program=$room/$1
     shift
-    if [ -n "$emulator" ]; then "$emulator" -L / "$program" "$@"; else "$program" "$@"; fi
+    "$program" "$@"
 }
 
 # The ns that a program takes for a run.

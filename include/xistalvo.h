@@ -26,17 +26,58 @@
 extern "C" {
 #endif
 
+/* The version of this interface. The second number rises where something is added, the first where a program has to change. */
+#define XISTALVO_VERSION_MAJOR 1
+#define XISTALVO_VERSION_MINOR 0
+#define XISTALVO_VERSION "1.0"
+
 /* The managed numbers of one image, in elements. */
 #define XISTALVO_NUMBERS 32
 
-/* The octets of an image of k associations, and of the largest. */
+/* The image: its version, the most associations, the octets that k of them take, and the most octets. xistalvo_image.h lays one out. */
+#define XISTALVO_IMAGE_VERSION 1
+#define XISTALVO_MOST_ASSOCIATIONS 32
 #define XISTALVO_IMAGE_LENGTH(k) (2 + 56 * (k))
 #define XISTALVO_LARGEST_IMAGE 1794
+
+/* Places in an image of k associations: version, count, the SPI of entry i and the position of its body, the body of entry i. */
+#define XISTALVO_AT_VERSION 0
+#define XISTALVO_AT_COUNT 1
+#define XISTALVO_AT_SPI(i) (2 + 4 * (i))
+#define XISTALVO_AT_POSITION(i) (4 + 4 * (i))
+#define XISTALVO_AT_BODY(k, i) (2 + 4 * (k) + 52 * (i))
+#define XISTALVO_BODY_LENGTH 52
+
+/* Places in a body. */
+#define XISTALVO_IN_SERVICE 0
+#define XISTALVO_IN_KIND 1
+#define XISTALVO_IN_DIRECTION 2
+#define XISTALVO_IN_STATE 3
+#define XISTALVO_IN_SPACECRAFT 4
+#define XISTALVO_IN_CHANNEL 6
+#define XISTALVO_IN_MAP 7
+#define XISTALVO_IN_WINDOW 8
+#define XISTALVO_IN_MASK 10
+#define XISTALVO_IN_KEY 16
+#define XISTALVO_IN_MARK 48
+
+/* The services. */
+#define XISTALVO_AUTHENTICATION 1           /* CMAC: the data stay readable; a frame grows by 22 octets */
+#define XISTALVO_AUTHENTICATED_ENCRYPTION 2 /* GCM: the data are encrypted too; a frame grows by 30 octets */
 
 /* The frame kinds. Any other number is answered by 3. */
 #define XISTALVO_TC 1         /* telecommand, header of 5 octets, at most 1,024 octets */
 #define XISTALVO_TC_SEGMENT 2 /* telecommand with segment header, 6 octets, at most 1,024 */
 #define XISTALVO_TM 3         /* telemetry, header of 6 octets, at most 2,048, perhaps with an operational control field (OCF) */
+
+/* The directions. */
+#define XISTALVO_SEND 1
+#define XISTALVO_RECEIVE 2
+
+/* The states. Only an operational association serves. */
+#define XISTALVO_UNKEYED 0
+#define XISTALVO_KEYED 1
+#define XISTALVO_OPERATIONAL 2
 
 /* An output of this many octets is long enough for every result. */
 #define XISTALVO_LARGEST_FRAME 2048

@@ -1,5 +1,5 @@
 # shellcheck shell=sh
-# What the tests and the examples share: the machine, the tools and the archive. A script that reads this file has set `root` to the
+# What the tests, the examples and the port share: the machine, the tools and the archive. A script that reads this file has set `root` to the
 # repository's root; what is built goes to $room.
 room=$root/target/tests
 mkdir -p "$room"
@@ -9,23 +9,26 @@ fail() { # SENTENCE
     exit 1
 }
 
-# The archive is x86-64 code. Elsewhere the C programs are compiled for it too, and run under the emulator that rt uses.
-case $(uname -m) in
-x86_64)
-    compiler=${CC:-cc} emulator=
-    ;;
-aarch64)
-    compiler=${CC:-x86_64-linux-gnu-gcc}
-    emulator="$(dirname "$(readlink -f "$(command -v rt || echo rt)")")/../on/aarch64/toolchain/bin/qemu-x86_64"
-    [ -x "$emulator" ] || fail "The module is x86-64 code, and no emulator for it is here: $emulator"
-    ;;
-*)
-    fail "The module is x86-64 code, and nothing here runs it on $(uname -m)."
-    ;;
-esac
+# What a script says of itself to --help: the comment at its head.
+help_if_asked() { # SCRIPT [WORD..]
+    script=$1
+    shift
+    for word in "$@"; do
+        case $word in
+        -h | --help)
+            sed -n '2,/^[^#]/s/^# \{0,1\}//p' "$script"
+            exit 0
+            ;;
+        esac
+    done
+}
+
+# The programs are built for this machine and run on it; tests/port sets an emulator where they are for another.
+compiler=${CC:-cc}
+emulator=
 
 run_program() { # PROGRAM ARGUMENT..
-    if [ -n "$emulator" ]; then "$emulator" -L / "$@"; else "$@"; fi
+    if [ -n "$emulator" ]; then "$emulator" "$@"; else "$@"; fi
 }
 
 # Installs packages where that can be done.
@@ -47,12 +50,13 @@ need_tool() { # COMMAND WHAT PACKAGE..
         fail "$what is missing ($tool), and could not be installed from here; as root: apt-get install $*"
 }
 
-# A C compiler that links C programs.
+# A C compiler that links C programs. One that the caller named has to be there.
 need_compiler() {
     case $compiler in
-    x86_64-linux-gnu-gcc) need_tool "$compiler" "A C compiler for x86-64" gcc-x86-64-linux-gnu libc6-dev-amd64-cross ;;
-    *) need_tool "$compiler" "A C compiler" gcc libc6-dev ;;
+    *[[:space:]]*) fail "CC has words in it ($compiler): name the compiler alone, as in CC=clang; tests/build takes flags." ;;
     esac
+    [ -z "${CC:-}" ] || command -v "$compiler" >/dev/null || fail "CC names $compiler, and there is no such command."
+    need_tool "$compiler" "A C compiler" gcc libc6-dev
 }
 
 # OpenSSL's libcrypto, 3.0 or later, with its headers: tried, not looked for.
@@ -62,29 +66,21 @@ has_openssl() {
         run_program "$room/openssl_here"
 }
 
-# Where the programs are x86-64 ones and the machine is not, apt-get has to be told that packages for x86-64 are wanted too.
-know_packages_of_other_machine() {
-    [ -z "$emulator" ] || { [ "$(id -u)" -eq 0 ] && command -v dpkg >/dev/null && dpkg --add-architecture amd64; }
-}
-
 need_openssl() {
-    package=libssl-dev
-    [ -z "$emulator" ] || package=libssl-dev:amd64
-    has_openssl || { know_packages_of_other_machine && install "$package" && has_openssl; } ||
-        fail "OpenSSL's libcrypto (3.0 or later) is missing, or its headers, and could not be installed from here; as root: apt-get install $package"
+    has_openssl || { install libssl-dev && has_openssl; } ||
+        fail "OpenSSL's libcrypto (3.0 or later) is missing, or its headers, and could not be installed from here; as root: apt-get install libssl-dev"
 }
 
-# Sets `archive`: the one that was named, or the one that the toolchain makes from this repository.
+# Sets `archive`: the one that was named; or that of this repository for this machine, which is made where it is not there or a source is
+# newer. On x86-64 it is the toolchain's own, on Arm the port.
 find_archive() { # [ARCHIVE]
     archive=${1:-${XISTALVO_ARCHIVE:-}}
     if [ -z "$archive" ]; then
-        command -v rt >/dev/null ||
-            fail "No archive of the module was named, and the Rattle toolchain (rt), which makes one, is not on the path."
-        (cd "$root" && rt staticlib link_c) >"$room/staticlib.log" 2>&1 || {
-            cat "$room/staticlib.log" >&2
-            fail "The module's archive could not be made."
-        }
-        archive=$root/target/staticlib/liblink_c.a
+        case $(uname -m) in
+        x86_64) "$root/tools/archive" >&2 && archive=$root/target/staticlib/liblink_c.a ;;
+        aarch64) "$root/tools/port" aarch64 >&2 && archive=$root/target/port/aarch64/libxistalvo.a ;;
+        *) fail "No archive of the module was named, and the toolchain, which makes one, runs on x86-64 and aarch64; this is $(uname -m)." ;;
+        esac || exit 1
     fi
     [ -f "$archive" ] || fail "There is no archive $archive."
     archive=$(readlink -f "$archive")

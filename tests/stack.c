@@ -1,6 +1,7 @@
 /* How much stack each entry point takes. A call runs on a stack of its own that was filled with a pattern before; the octets below the
  * caller's frame that are no longer the pattern are those that the call took. Every call is done once over each of two patterns, so that an
  * octet that is written with the pattern itself does not count as unused. */
+#include "../include/xistalvo_stack.h"
 #include "../include/xistalvo.h"
 #include "independent/reading.h"
 
@@ -9,7 +10,7 @@
 #include <string.h>
 #include <ucontext.h>
 
-enum { ROOM = 1 << 16, MOST = 4096 }; /* the calls run on ROOM octets, and may take MOST */
+enum { ROOM = 1 << 16 }; /* the calls run on this many octets, and may take XISTALVO_STACK */
 
 static uint8_t stack[ROOM] __attribute__((aligned(64)));
 static uintptr_t frame_of_caller;
@@ -139,5 +140,5 @@ int main(void)
         most = larger(most, larger(taken[0], taken[1]));
     }
     printf("stack: at most %zu octets\n", most);
-    return most > MOST;
+    return most > XISTALVO_STACK;
 }

@@ -6,7 +6,9 @@
  *   a refused call writes neither.
  *
  * So power may fail between any two instructions. A proof speaks of the language's machine; this speaks of what a compiler made of it, on the
- * calls that are tried. It needs the trap flag of an x86-64 processor, and says so where it cannot run (another processor, valgrind).
+ * calls that are tried. It stops after one instruction by the trap flag of an x86-64 processor, or by a breakpoint that it puts behind the
+ * instruction on aarch64 and powerpc; where it cannot run (another processor, valgrind) it says so. What leaves the processor in another
+ * order than it was written, out of a write buffer or a cache, it cannot see.
  *
  *   stores [--seed S] [--count N] [--from W] */
 #include "support/both.h"
@@ -29,20 +31,74 @@
 #define RUNNING_ON_VALGRIND 0
 #endif
 
-#if !defined(__x86_64__) || !defined(__linux__)
+#if !defined(__linux__) || (!defined(__x86_64__) && !defined(__aarch64__) && !defined(__powerpc__))
 
 int main(void)
 {
-    puts("stores: not run, it needs Linux on an x86-64 processor");
+    puts("stores: not run, it needs Linux on x86-64, aarch64 or powerpc");
     return 0;
 }
 
 #else
 
 #include <signal.h>
+#include <sys/mman.h>
 #include <ucontext.h>
+#include <unistd.h>
 
-enum { TRAP_FLAG = 0x100, MOST_STATES = 64, DATA_MOST = 60 };
+enum { MOST_STATES = 64, DATA_MOST = 60 };
+
+/* ---- one instruction ---- */
+
+#if defined(__x86_64__)
+
+enum { TRAP_FLAG = 0x100 };
+
+static void stop_after_one(ucontext_t *context) { context->uc_mcontext.gregs[REG_EFL] |= TRAP_FLAG; }
+
+static void go_on(ucontext_t *context) { context->uc_mcontext.gregs[REG_EFL] &= ~(greg_t)TRAP_FLAG; }
+
+#else
+
+/* Every instruction has 4 octets, and a write does not branch. */
+#if defined(__aarch64__)
+#define BREAKPOINT UINT32_C(0xD4200000) /* brk #0 */
+#define INSTRUCTION(context) ((uint32_t *)(context)->uc_mcontext.pc)
+#else
+#define BREAKPOINT UINT32_C(0x7FE00008) /* trap */
+#define INSTRUCTION(context) ((uint32_t *)(context)->uc_mcontext.uc_regs->gregs[32]) /* the next instruction's address */
+#endif
+
+static uint32_t *place_of_breakpoint, replaced;
+
+static void write_instruction(uint32_t instruction)
+{
+    *place_of_breakpoint = instruction;
+    __builtin___clear_cache((char *)place_of_breakpoint, (char *)(place_of_breakpoint + 1));
+}
+
+static void stop_after_one(ucontext_t *context)
+{
+    uintptr_t page = (uintptr_t)sysconf(_SC_PAGESIZE);
+    place_of_breakpoint = INSTRUCTION(context) + 1;
+    if (mprotect((void *)((uintptr_t)place_of_breakpoint & ~(page - 1)), page, PROT_READ | PROT_WRITE | PROT_EXEC) != 0) {
+        both_fail("no breakpoint can be put into the code");
+    }
+    replaced = *place_of_breakpoint;
+    write_instruction(BREAKPOINT);
+}
+
+static void go_on(ucontext_t *context)
+{
+    if (INSTRUCTION(context) != place_of_breakpoint) {
+        both_fail("the program stopped elsewhere than at its breakpoint");
+    }
+    write_instruction(replaced);
+}
+
+#endif
+
+/* ---- watching ---- */
 
 static struct guarded image_area, output_area;
 
@@ -96,7 +152,7 @@ static void on_write(int signal_number, siginfo_t *information, void *context)
     }
     seen.writes++;
     protect_both(LEND_WRITABLE);
-    ((ucontext_t *)context)->uc_mcontext.gregs[REG_EFL] |= TRAP_FLAG;
+    stop_after_one(context);
 }
 
 /* The instruction is over. */
@@ -104,7 +160,7 @@ static void on_step(int signal_number, siginfo_t *information, void *context)
 {
     (void)signal_number;
     (void)information;
-    ((ucontext_t *)context)->uc_mcontext.gregs[REG_EFL] &= ~(greg_t)TRAP_FLAG;
+    go_on(context);
     note_image();
     note_output();
     protect_both(LEND_READ_ONLY);

@@ -1,10 +1,11 @@
 /* The ground secures a telecommand frame and the spacecraft checks it; a replay is refused; both restart and go on. */
-#include "xistalvo.h"
+#include "xistalvo_image.h"
+#include "xistalvo_stack.h"
 
 #include <stdio.h>
 #include <string.h>
 
-enum { SPI = 9, IMAGE_LENGTH = XISTALVO_IMAGE_LENGTH(1), SEND = 1, RECEIVE = 2 };
+enum { SPI = 9, IMAGE_LENGTH = XISTALVO_IMAGE_LENGTH(1) };
 
 /* One end of the link. The image has to outlive a loss of power; the numbers need not. */
 struct end {
@@ -13,24 +14,17 @@ struct end {
     uint32_t numbers[XISTALVO_NUMBERS];
 };
 
-/* An image with one association: service 2 (authenticated encryption) for TC frames of spacecraft 27, virtual channel 5. */
+/* An image with one association: authenticated encryption for TC frames of spacecraft 27, virtual channel 5. The mask puts all five octets
+ * of the header under the MAC. */
 static void build_image(uint8_t image[IMAGE_LENGTH], uint8_t direction)
 {
-    static const uint8_t contents[] = {
-        1, 1,         /* version; count */
-        0, SPI, 0, 6, /* the entry: SPI, position of its body */
-    };
-    const uint8_t fields[] = {
-        2, XISTALVO_TC, direction, 2,       /* service, kind, direction, state: operational */
-        0, 27, 5, 0,                        /* spacecraft, virtual channel, MAP */
-        0, 100,                             /* window */
-        0xFF, 0xFF, 0xFF, 0xFF, 0xFF, 0x00, /* header mask: the MAC covers all five octets */
-    };
-    memset(image, 0, IMAGE_LENGTH); /* the mark, in the last four octets, is 0 in a new image */
-    memcpy(image, contents, sizeof contents);
-    memcpy(image + 6, fields, sizeof fields);
-    for (uint8_t i = 0; i < 32; i++) {
-        image[22 + i] = i; /* the key; a real one comes from the key office */
+    struct xistalvo_association association = {SPI, XISTALVO_AUTHENTICATED_ENCRYPTION, XISTALVO_TC, direction, XISTALVO_OPERATIONAL, 27, 5, 0,
+                                               100, {0xFF, 0xFF, 0xFF, 0xFF, 0xFF, 0x00}, {0}, 0};
+    for (uint8_t i = 0; i < sizeof association.key; i++) {
+        association.key[i] = i; /* a real one comes from the key office */
+    }
+    if (xistalvo_make_image(&association, 1, image, IMAGE_LENGTH) == 0) {
+        puts(xistalvo_association_fault(&association));
     }
 }
 
@@ -77,8 +71,8 @@ int main(void)
     static struct end space = {"load on the spacecraft", {0}, {0}};
     static uint8_t frame[XISTALVO_LARGEST_FRAME];
 
-    build_image(ground.image, SEND);
-    build_image(space.image, RECEIVE);
+    build_image(ground.image, XISTALVO_SEND);
+    build_image(space.image, XISTALVO_RECEIVE);
     load(&ground);
     load(&space);
 
@@ -92,5 +86,7 @@ int main(void)
 
     load(&space); /* the spacecraft restarts too, and still knows the frame */
     check(&space, "the same frame again", frame, length);
+
+    xistalvo_clear_stack(); /* the calls have left key octets there */
     return 0;
 }

@@ -1,0 +1,140 @@
+/* What is left on the stack after a call, and after include/xistalvo_stack.h has cleared it.
+ *
+ * A call runs on a stack of its own that was filled with a pattern. Done twice with two keys and all else the same, and cleared, it must leave
+ * the same octets on that stack, whichever key it was: so no octet is left that depends on the key. Without the clearing the key itself is
+ * found there, which shows that the test can see it. */
+#include "../include/xistalvo_stack.h"
+#include "../include/xistalvo.h"
+#include "independent/reading.h"
+
+#include <stdio.h>
+#include <stdlib.h>
+#include <string.h>
+#include <ucontext.h>
+
+enum { ROOM = 1 << 16, PATTERN = 0x5A, PIECE = 4, DATA = 100, SPI = 9 };
+
+static uint8_t stack[ROOM] __attribute__((aligned(64)));
+static ucontext_t here, there;
+
+static uint8_t images[2][LARGEST_IMAGE], clear[LARGEST_FRAME], secured[LARGEST_FRAME], opened[LARGEST_FRAME];
+static uint32_t numbers[2][NUMBER_COUNT];
+static size_t image_length, clear_length;
+static uint64_t result;
+static bool is_cleared;
+
+static void call_secure(void)
+{
+    result = xistalvo_secure(images[0], image_length, numbers[0], NUMBER_COUNT, XISTALVO_TC, SPI, clear, clear_length, secured,
+                             sizeof secured);
+    if (is_cleared) {
+        xistalvo_clear_stack();
+    }
+}
+
+static void call_check(void)
+{
+    result = xistalvo_check(images[1], image_length, numbers[1], NUMBER_COUNT, XISTALVO_TC, secured, XISTALVO_LENGTH(result), opened,
+                            sizeof opened);
+    if (is_cleared) {
+        xistalvo_clear_stack();
+    }
+}
+
+static void run_on_own_stack(void (*call)(void))
+{
+    memset(stack, PATTERN, sizeof stack);
+    getcontext(&there);
+    there.uc_stack.ss_sp = stack;
+    there.uc_stack.ss_size = sizeof stack;
+    there.uc_link = &here;
+    makecontext(&there, call, 0);
+    swapcontext(&here, &there);
+    if (XISTALVO_ANSWER(result) != XISTALVO_DONE) {
+        fprintf(stderr, "clearing: a call was refused by %u\n", XISTALVO_ANSWER(result));
+        exit(1);
+    }
+}
+
+/* Both ends with one association, and a clear frame; the key's octets follow from one number. */
+static void key_of(unsigned number, uint8_t key[KEY_LENGTH])
+{
+    for (unsigned i = 0; i < KEY_LENGTH; i++) {
+        key[i] = (uint8_t)(7 * i * i + 11 * i + 31 * number + 1);
+    }
+}
+
+static void prepare(unsigned service, unsigned key)
+{
+    static const uint8_t header[] = {0x00, 27, 5 << 2, 0, 0};
+    for (unsigned end = 0; end < 2; end++) {
+        struct table table = {.count = 1};
+        table.entries[0] = (struct association){.spi = SPI, .service = service, .kind = 1, .direction = end + 1, .state = 2,
+                                                .spacecraft = 27, .channel = 5, .window = 100, .mark = 0};
+        key_of(key, table.entries[0].key);
+        image_length = write_image(&table, images[end]);
+        xistalvo_load(images[end], image_length, numbers[end], NUMBER_COUNT);
+    }
+    clear_length = sizeof header + DATA;
+    memset(clear, 0xAA, clear_length);
+    memcpy(clear, header, sizeof header);
+    write_tc_length(clear, clear_length);
+}
+
+/* A call with this key, and for a check the sending before it; the stack then is as the last call left it. */
+static void run(void (*call)(void), unsigned service, unsigned key)
+{
+    prepare(service, key);
+    run_on_own_stack(call_secure);
+    if (call != call_secure) {
+        run_on_own_stack(call);
+    }
+}
+
+/* How many pieces of the key are on the stack. */
+static size_t pieces_found(unsigned number)
+{
+    uint8_t key[KEY_LENGTH];
+    size_t found = 0;
+    key_of(number, key);
+    for (size_t at = 0; at + PIECE <= KEY_LENGTH; at++) {
+        for (size_t i = 0; i + PIECE <= sizeof stack; i++) {
+            found += memcmp(stack + i, key + at, PIECE) == 0;
+        }
+    }
+    return found;
+}
+
+static void need(bool is_so, const char *call, unsigned service, const char *sentence)
+{
+    if (!is_so) {
+        fprintf(stderr, "clearing: %s, service %u: %s\n", call, service, sentence);
+        exit(1);
+    }
+}
+
+int main(void)
+{
+    static const struct {
+        const char *name;
+        void (*call)(void);
+    } calls[] = {{"secure", call_secure}, {"check", call_check}};
+    static uint8_t left[ROOM];
+    size_t before = 0;
+    for (size_t i = 0; i < sizeof calls / sizeof calls[0]; i++) {
+        for (unsigned service = 1; service <= 2; service++) {
+            is_cleared = false;
+            run(calls[i].call, service, 1);
+            need(pieces_found(1) != 0, calls[i].name, service, "the key is not on the stack after a call, so this test can see nothing");
+            before += pieces_found(1);
+            is_cleared = true;
+            run(calls[i].call, service, 1);
+            need(pieces_found(1) == 0, calls[i].name, service, "a piece of the key is on the stack after the clearing");
+            memcpy(left, stack, sizeof left);
+            run(calls[i].call, service, 2);
+            need(memcmp(left, stack, sizeof left) == 0, calls[i].name, service, "what is left on the stack depends on the key");
+        }
+    }
+    printf("clearing: %zu pieces of keys before, none after; no octet that is left depends on the key\n", before);
+    return 0;
+}

@@ -1,0 +1,335 @@
+/* Both ends of a link keep their images as examples/c/keeping.h does, and are killed at random points.
+ *
+ *   keeping [--seed S] [--count N] [--from W]
+ *
+ * A run is a process that sends frames, or checks frames that were sent, and is killed: between any two of its system calls or in the middle
+ * of a write, as a number of the run says, or from outside at a random moment; one in ten is left alone. Three ways are tried: a file; memory behind a driver, one octet
+ * at a time; and memory that is lent to the module itself. A process that is killed hands its files and its shared memory on, and nothing
+ * else. Over all runs of an end, demand 3: each number that went out exceeds those before, and so does each that was released, with the data
+ * that were sent under it. A kill does not lose what the system has not flushed; so the file's calls are watched too: a new file is flushed
+ * before it takes its name, and the folder before a frame leaves. */
+#include "support/both.h"
+#include "support/options.h"
+
+#include "../include/xistalvo_image.h"
+
+#include <fcntl.h>
+#include <inttypes.h>
+#include <signal.h>
+#include <stdio.h>
+#include <stdlib.h>
+#include <string.h>
+#include <sys/mman.h>
+#include <sys/wait.h>
+#include <unistd.h>
+
+/* ---- the system's calls, watched ---- */
+
+static struct {
+    struct random random;
+    uint32_t until_kill;  /* this many more steps; 0: none */
+    bool is_file_flushed; /* since the last write */
+    bool is_name_flushed; /* since the last rename */
+} watch;
+
+static void step(void)
+{
+    if (watch.until_kill != 0 && --watch.until_kill == 0) {
+        raise(SIGKILL);
+    }
+}
+
+static ssize_t watched_write(int file, const void *octets, size_t length)
+{
+    step();
+    if (watch.until_kill == 1) { /* a part of it, and then the end */
+        length = random_below(&watch.random, (uint32_t)length + 1);
+    }
+    ssize_t written = write(file, octets, length);
+    watch.is_file_flushed = false;
+    step();
+    return written;
+}
+
+static int watched_fsync(int file)
+{
+    step();
+    int status = fsync(file);
+    watch.is_file_flushed = true;
+    watch.is_name_flushed = true;
+    step();
+    return status;
+}
+
+static int watched_rename(const char *from, const char *to)
+{
+    if (!watch.is_file_flushed) {
+        both_fail("a file takes its name before it is flushed");
+    }
+    step();
+    int status = rename(from, to);
+    watch.is_name_flushed = false;
+    step();
+    return status;
+}
+
+#define write watched_write
+#define fsync watched_fsync
+#define rename watched_rename
+#include "../examples/c/keeping.c"
+#undef write
+#undef fsync
+#undef rename
+
+/* ---- the two ends, each in three ways ---- */
+
+enum way { IN_FILE, BEHIND_DRIVER, LENT_ITSELF, WAYS };
+static const char *const paths[] = {"sender", "receiver"}; /* in a folder of the test's own */
+static const char *const way_names[] = {"a file", "memory behind a driver", "memory lent itself"};
+
+enum { LENGTH = XISTALVO_IMAGE_LENGTH(1), SPI = 9, MOST_FRAMES = 200, DATA_LENGTH = 8, FRAME_LENGTH = 5 + DATA_LENGTH + 22, RUNS_OF_LINK = 10 };
+
+struct frame {
+    uint8_t octets[FRAME_LENGTH];
+};
+
+struct link {
+    enum way way;
+    uint8_t *memory[2];             /* shared: it outlives a process */
+    struct frame sent[MOST_FRAMES]; /* the last ones */
+    size_t sent_count;
+    uint32_t last_sent, last_released;
+};
+
+struct totals {
+    uint64_t frames, releases, kills;
+};
+static struct totals totals;
+
+static uint32_t number_in(const uint8_t *frame)
+{
+    return (uint32_t)frame[7] << 24 | (uint32_t)frame[8] << 16 | (uint32_t)frame[9] << 8 | frame[10];
+}
+
+static uint32_t number_after_load(const uint8_t *image)
+{
+    uint32_t numbers[XISTALVO_NUMBERS];
+    if (XISTALVO_ANSWER(xistalvo_load(image, LENGTH, numbers, XISTALVO_NUMBERS)) != XISTALVO_DONE) {
+        both_fail("between two octets the memory holds no image");
+    }
+    return numbers[0];
+}
+
+/* The memory's driver. A loss of power after this octet leaves an image whose mark has risen by one. */
+static bool drive(void *driver, size_t address, uint8_t octet)
+{
+    uint32_t before = number_after_load(driver);
+    step();
+    *((volatile uint8_t *)driver + address) = octet;
+    if (number_after_load(driver) != before + 64) {
+        both_fail("an octet was written that does not raise the mark by one");
+    }
+    step();
+    return true;
+}
+
+static void start(struct link *link, unsigned end, struct kept *kept)
+{
+    bool is_started = link->way == IN_FILE ? kept_start_from_file(kept, paths[end]) : kept_start(kept, link->memory[end], LENGTH);
+    if (!is_started) {
+        both_fail("an image does not load after a kill");
+    }
+}
+
+static bool keep(struct link *link, unsigned end, struct kept *kept)
+{
+    switch (link->way) {
+    case IN_FILE:
+        return kept_in_file(kept, paths[end]) && watch.is_name_flushed;
+    case BEHIND_DRIVER:
+        return kept_in_memory(kept, drive, link->memory[end]);
+    default:
+        return true;
+    }
+}
+
+static uint8_t *lent(struct link *link, unsigned end, struct kept *kept) { return link->way == LENT_ITSELF ? link->memory[end] : kept->image; }
+
+static void tell(int pipe_end, const void *octets, size_t length)
+{
+    if (write(pipe_end, octets, length) != (ssize_t)length) {
+        _exit(1);
+    }
+}
+
+/* Sends until it is killed or has sent enough. The data are the number of the frame's random stream. */
+static void send_frames(struct link *link, int pipe_end)
+{
+    static struct kept kept;
+    uint8_t clear[5 + DATA_LENGTH] = {0x00, 27, 5 << 2, sizeof clear - 1, 0}, output[FRAME_LENGTH];
+    start(link, 0, &kept);
+    for (unsigned i = 0; i < MOST_FRAMES; i++) {
+        random_octets(&watch.random, clear + 5, DATA_LENGTH);
+        uint64_t result = xistalvo_secure(lent(link, 0, &kept), LENGTH, kept.numbers, XISTALVO_NUMBERS, XISTALVO_TC, SPI, clear,
+                                          sizeof clear, output, sizeof output);
+        if (XISTALVO_ANSWER(result) == XISTALVO_DONE && keep(link, 0, &kept)) {
+            tell(pipe_end, output, sizeof output);
+        }
+        step();
+    }
+}
+
+/* Checks frames that were sent, in their order with gaps and repetitions, until it is killed or has tried enough. */
+static void check_frames(struct link *link, int pipe_end)
+{
+    static struct kept kept;
+    struct frame released;
+    start(link, 1, &kept);
+    for (size_t i = 0; i < link->sent_count; i += random_between(&watch.random, 0, 3)) {
+        if (random_percent(&watch.random, 10) && i >= 5) {
+            i -= 5;
+        }
+        memcpy(&released, &link->sent[i], sizeof released);
+        uint64_t result = xistalvo_check(lent(link, 1, &kept), LENGTH, kept.numbers, XISTALVO_NUMBERS, XISTALVO_TC, link->sent[i].octets,
+                                         FRAME_LENGTH, released.octets + 11, DATA_LENGTH);
+        if (XISTALVO_ANSWER(result) == XISTALVO_DONE && keep(link, 1, &kept)) {
+            tell(pipe_end, &released, sizeof released);
+        }
+        step();
+    }
+}
+
+/* ---- what went out, and what was released ---- */
+
+static void note_sent(struct link *link, const struct frame *frame)
+{
+    if (number_in(frame->octets) <= link->last_sent) {
+        both_fail("a number went out that is not above all before it");
+    }
+    link->last_sent = number_in(frame->octets);
+    totals.frames++;
+    if (link->sent_count == MOST_FRAMES) {
+        memmove(link->sent, link->sent + 1, sizeof link->sent - sizeof link->sent[0]);
+        link->sent_count--;
+    }
+    link->sent[link->sent_count++] = *frame;
+}
+
+static void note_released(struct link *link, const struct frame *frame)
+{
+    bool is_one_sent = false;
+    for (size_t i = 0; i < link->sent_count; i++) {
+        is_one_sent = is_one_sent || memcmp(frame, &link->sent[i], sizeof *frame) == 0;
+    }
+    if (number_in(frame->octets) <= link->last_released || !is_one_sent) {
+        both_fail("a number was released that is not above all before it, or with other data than were sent");
+    }
+    link->last_released = number_in(frame->octets);
+    totals.releases++;
+}
+
+/* ---- runs ---- */
+
+static void run_end(struct link *link, unsigned end, struct random *random)
+{
+    int ends[2];
+    struct frame frame;
+    uint32_t moment = random_below(random, 1500);
+    bool is_left_alone = random_percent(random, 10);
+    bool is_from_outside = !is_left_alone && (random_percent(random, 50) || link->way == LENT_ITSELF);
+    uint32_t steps = random_between(random, 1, 60);
+    watch.random = random_stream(random_any(random), 0);
+    if (pipe(ends) != 0) {
+        both_fail("no pipe");
+    }
+    pid_t child = fork();
+    if (child == 0) {
+        close(ends[0]);
+        watch.until_kill = is_from_outside || is_left_alone ? 0 : steps;
+        (end == 0 ? send_frames : check_frames)(link, ends[1]);
+        _exit(0);
+    }
+    close(ends[1]);
+    if (is_from_outside) {
+        usleep(moment);
+        kill(child, SIGKILL);
+    }
+    while (read(ends[0], &frame, sizeof frame) == (ssize_t)sizeof frame) {
+        (end == 0 ? note_sent : note_released)(link, &frame);
+    }
+    close(ends[0]);
+    int status = 0;
+    if (child < 0 || waitpid(child, &status, 0) != child || (WIFEXITED(status) && WEXITSTATUS(status) != 0)) {
+        both_fail("an end of the link failed by itself");
+    }
+    totals.kills += WIFSIGNALED(status) != 0;
+}
+
+/* A new link. Its marks are a little below a multiple of 256, where a raise changes another octet than the last. */
+static void make_link(struct link *link, struct random *random)
+{
+    uint32_t mark = 256 * random_between(random, 1, 1000) - random_between(random, 1, 4);
+    link->sent_count = 0;
+    link->last_sent = 0;
+    link->last_released = 0;
+    for (unsigned end = 0; end < 2; end++) {
+        struct xistalvo_association association = {SPI, XISTALVO_AUTHENTICATION, XISTALVO_TC, (uint8_t)(end + 1), XISTALVO_OPERATIONAL,
+                                                   27, 5, 0, 1024, {0}, {1, 2, 3}, mark};
+        if (xistalvo_make_image(&association, 1, link->memory[end], LENGTH) != LENGTH
+            || !write_new_file(paths[end], link->memory[end], LENGTH)) {
+            both_fail("an image cannot be made");
+        }
+    }
+}
+
+static void *shared_memory(void)
+{
+    void *memory = mmap(NULL, LENGTH, PROT_READ | PROT_WRITE, MAP_SHARED | MAP_ANONYMOUS, -1, 0);
+    if (memory == MAP_FAILED) {
+        both_fail("no shared memory");
+    }
+    return memory;
+}
+
+static void try_way(enum way way, struct options options)
+{
+    static struct link link;
+    char folder[] = "/tmp/keeping.XXXXXX";
+    if (mkdtemp(folder) == NULL || chdir(folder) != 0) {
+        both_fail("no folder");
+    }
+    link.way = way;
+    link.memory[0] = shared_memory();
+    link.memory[1] = shared_memory();
+    totals = (struct totals){0, 0, 0};
+    for (uint64_t i = 0; i < options.count; i++) {
+        struct random random = random_stream(options.seed, options.from + i);
+        both_at(options.seed, options.from + i, (uint64_t)way);
+        if (i % RUNS_OF_LINK == 0) {
+            make_link(&link, &random);
+        }
+        run_end(&link, 0, &random);
+        run_end(&link, 1, &random);
+    }
+    unlink("sender");
+    unlink("sender.new");
+    unlink("receiver");
+    unlink("receiver.new");
+    rmdir(folder);
+    if (totals.releases == 0 || totals.kills == 0) {
+        both_fail("nothing was released, or nothing killed");
+    }
+    printf("%s: %" PRIu64 " kills in %" PRIu64 " runs, %" PRIu64 " frames sent, %" PRIu64 " released\n", way_names[way], totals.kills,
+           2 * options.count, totals.frames, totals.releases);
+}
+
+int main(int argument_count, char **arguments)
+{
+    struct options options = options_of(argument_count, arguments, 200);
+    both_prepare("keeping");
+    for (enum way way = IN_FILE; way < WAYS; way++) {
+        try_way(way, options);
+    }
+    printf("keeping: seed %" PRIu64 ", no number went out twice, and none was released twice\n", options.seed);
+    return 0;
+}
