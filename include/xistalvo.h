@@ -69,6 +69,7 @@ extern "C" {
 #define XISTALVO_TC 1         /* telecommand, header of 5 octets, at most 1,024 octets */
 #define XISTALVO_TC_SEGMENT 2 /* telecommand with segment header, 6 octets, at most 1,024 */
 #define XISTALVO_TM 3         /* telemetry, header of 6 octets, at most 2,048, perhaps with an operational control field (OCF) */
+#define XISTALVO_AOS 4        /* AOS, header of 6 octets with version 01, at most 2,048; no length field, insert zone or OCF */
 
 /* The directions. */
 #define XISTALVO_SEND 1

@@ -18,7 +18,7 @@ struct xistalvo_association {
     uint8_t kind;
     uint8_t direction;
     uint8_t state;
-    uint16_t spacecraft; /* 0 to 1,023 */
+    uint16_t spacecraft; /* 0 to 1,023, for AOS 0 to 255 */
     uint8_t channel;     /* 0 to 63, for TM 0 to 7 */
     uint8_t map;         /* 0 to 63 for TC with segment header, else 0 */
     uint16_t window;     /* 1 to 1,024 */
@@ -37,8 +37,8 @@ static inline const char *xistalvo_association_fault(const struct xistalvo_assoc
     if (association->service < XISTALVO_AUTHENTICATION || association->service > XISTALVO_AUTHENTICATED_ENCRYPTION) {
         return "a service is 1 or 2";
     }
-    if (kind < XISTALVO_TC || kind > XISTALVO_TM) {
-        return "a kind is 1 to 3";
+    if (kind < XISTALVO_TC || kind > XISTALVO_AOS) {
+        return "a kind is 1 to 4";
     }
     if (association->direction < XISTALVO_SEND || association->direction > XISTALVO_RECEIVE) {
         return "a direction is 1 or 2";
@@ -46,11 +46,11 @@ static inline const char *xistalvo_association_fault(const struct xistalvo_assoc
     if (association->state > XISTALVO_OPERATIONAL) {
         return "a state is 0 to 2";
     }
-    if (association->spacecraft > 1023) {
-        return "a spacecraft is 0 to 1,023";
+    if (association->spacecraft > (kind == XISTALVO_AOS ? 255 : 1023)) {
+        return "a spacecraft is 0 to 1,023, and for AOS 0 to 255";
     }
     if (association->channel > (kind == XISTALVO_TM ? 7 : 63)) {
-        return "a virtual channel is 0 to 63 for TC and 0 to 7 for TM";
+        return "a virtual channel is 0 to 63, and for TM 0 to 7";
     }
     if (association->map > (kind == XISTALVO_TC_SEGMENT ? 63 : 0)) {
         return "a MAP is 0 to 63 with a segment header, else 0";

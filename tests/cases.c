@@ -1,5 +1,5 @@
-/* The cases A to O of document 01 through the C interface, with the paper's own figures, and its slips. Each call is also compared with the
- * independent reading (support/both.h). */
+/* The cases A to O of document 01 through the C interface, with the paper's own figures, and its slips; and the fields and limits of AOS
+ * (document 02, request 1). Each call is also compared with the independent reading (support/both.h). */
 #include "support/both.h"
 
 #include <stdio.h>
@@ -87,8 +87,12 @@ static void start_input(struct input *input, enum which_call which, const struct
 static size_t clear_frame(unsigned kind, size_t length, uint8_t *frame)
 {
     memset(frame, 0xAA, length);
-    octets_of(kind == 3 ? "01 BB 00 00 00 00" : kind == 2 ? "00 1B 14 00 00 C0" : "00 1B 14 00 00", frame);
-    if (kind != 3) {
+    octets_of(kind == 4   ? "46 C5 00 00 00 00"
+              : kind == 3 ? "01 BB 00 00 00 00"
+              : kind == 2 ? "00 1B 14 00 00 C0"
+                          : "00 1B 14 00 00",
+              frame);
+    if (has_length_field(kind)) {
         write_tc_length(frame, length);
     }
     return length;
@@ -152,6 +156,18 @@ static const struct a_case cases[] = {
     {"TM: 2,018 gives 2,048, service 2", CALL_SECURE, SEND(2, 3, 0), 63, 2018, 0, 0, false, 0, 2048, 1, 64, 1},
     {"TM: 2,019 gives 11, service 2", CALL_SECURE, SEND(2, 3, 0), 63, 2019, 0, 0, false, 11, 0, 0, 63, 0},
     {"TM: 2,049 gives 3", CALL_SECURE, SEND(1, 3, 0), 63, 2049, 0, 0, false, 3, 0, 0, 63, 0},
+    /* AOS, at its own limits */
+    {"AOS: an octet of data", CALL_SECURE, SEND(1, 4, 0), 63, 7, 0, 0, false, 0, 29, 1, 64, 1},
+    {"AOS: without data", CALL_SECURE, SEND(1, 4, 0), 63, 6, 0, 0, false, 3, 0, 0, 63, 0},
+    {"AOS: an octet of data released", CALL_CHECK, RECEIVE(1, 4, 100, 0), 63, 7, 64, 0, false, 0, 1, 1, 64, 1},
+    {"AOS: ten octets released, service 2", CALL_CHECK, RECEIVE(2, 4, 100, 0), 63, 16, 64, 0, false, 0, 10, 1, 64, 1},
+    {"AOS: 2,026 gives 2,048", CALL_SECURE, SEND(1, 4, 0), 63, 2026, 0, 0, false, 0, 2048, 1, 64, 1},
+    {"AOS: 2,048 released", CALL_CHECK, RECEIVE(1, 4, 100, 0), 63, 2026, 64, 0, false, 0, 2020, 1, 64, 1},
+    {"AOS: 2,027 gives 11", CALL_SECURE, SEND(1, 4, 0), 63, 2027, 0, 0, false, 11, 0, 0, 63, 0},
+    {"AOS: 2,018 gives 2,048, service 2", CALL_SECURE, SEND(2, 4, 0), 63, 2018, 0, 0, false, 0, 2048, 1, 64, 1},
+    {"AOS: 2,019 gives 11, service 2", CALL_SECURE, SEND(2, 4, 0), 63, 2019, 0, 0, false, 11, 0, 0, 63, 0},
+    {"AOS: 2,048 gives 11", CALL_SECURE, SEND(1, 4, 0), 63, 2048, 0, 0, false, 11, 0, 0, 63, 0},
+    {"AOS: 2,049 gives 3", CALL_SECURE, SEND(1, 4, 0), 63, 2049, 0, 0, false, 3, 0, 0, 63, 0},
     /* the slips that can be seen from outside */
     {"slip: the window before the MAC", CALL_CHECK, RECEIVE(1, 1, 100, 0), 63, 6, 164, 0, true, 7, 0, 0, 63, 0},
     {"slip: the window before the MAC, service 2", CALL_CHECK, RECEIVE(2, 1, 100, 0), 63, 6, 164, 0, true, 7, 0, 0, 63, 0},
@@ -193,6 +209,81 @@ static void try_case(const struct a_case *a_case)
     expect(outcome.stores == a_case->stores, a_case->name, "another number of stores");
     expect(input.numbers[0] == a_case->last_after, a_case->name, "another number afterwards");
     expect(code_in(input.image) == a_case->code_after, a_case->name, "another mark afterwards");
+    passed++;
+}
+
+/* ---- AOS: its fields in an image and in a frame ---- */
+
+struct aos_image {
+    const char *name;
+    unsigned kind, spacecraft, channel, map;
+    unsigned answer;
+};
+
+static const struct aos_image aos_images[] = {
+    {"AOS image: spacecraft 255, channel 63", 4, 255, 63, 0, 0},
+    {"AOS image: spacecraft 256", 4, 256, 63, 0, 1},
+    {"AOS image: spacecraft 1,023", 4, 1023, 63, 0, 1},
+    {"AOS image: channel 64", 4, 255, 64, 0, 1},
+    {"AOS image: MAP 1", 4, 255, 63, 1, 1},
+    {"AOS image: kind 5", 5, 255, 63, 0, 1},
+};
+
+/* A header before 14 octets that begin with SPI 9, for an association of this spacecraft and channel. */
+struct aos_frame {
+    const char *name;
+    unsigned spacecraft, channel;
+    const char *header;
+    unsigned secured, checked; /* the answers; no MAC is there to be right, and the frame is too short for one */
+};
+
+static const struct aos_frame aos_frames[] = {
+    {"AOS: version 01", 27, 5, "46 C5 00 00 00 00", 0, 5},
+    {"AOS: version 00", 27, 5, "06 C5 00 00 00 00", 3, 3},
+    {"AOS: version 10", 27, 5, "86 C5 00 00 00 00", 3, 3},
+    {"AOS: version 11", 27, 5, "C6 C5 00 00 00 00", 3, 3},
+    {"AOS: frame count and signalling are free", 27, 5, "46 C5 FF FF FF FF", 0, 5},
+    {"AOS: all bits of spacecraft and channel", 255, 63, "7F FF 00 00 00 00", 0, 5},
+    {"slip: channel bits of AOS read as TM's", 27, 5, "46 CA 00 00 00 00", 4, 4},
+    {"slip: channel bits of AOS read as TC's", 27, 5, "46 C6 14 00 00 00", 4, 4},
+    {"slip: spacecraft of AOS with 10 bits", 104, 5, "46 85 00 00 00 00", 4, 4},
+    {"slip: spacecraft of AOS without its last bits", 24, 5, "46 C5 00 00 00 00", 4, 4},
+};
+
+static void place_association(struct input *input, unsigned kind, unsigned spacecraft, unsigned channel, unsigned map)
+{
+    struct table table;
+    expect(read_image(input->image, input->image_length, &table), "AOS", "the image breaks a rule");
+    table.entries[0].kind = kind;
+    table.entries[0].spacecraft = spacecraft;
+    table.entries[0].channel = channel;
+    table.entries[0].map = map;
+    write_image(&table, input->image);
+}
+
+static void try_aos_image(const struct aos_image *aos)
+{
+    static const struct setting setting = SEND(1, 4, 0);
+    static struct input input;
+    start_input(&input, CALL_LOAD, &setting);
+    place_association(&input, aos->kind, aos->spacecraft, aos->channel, aos->map);
+    expect(both_run(&test_random, &input).answer == aos->answer, aos->name, "another answer");
+    passed++;
+}
+
+static void try_aos_frame(const struct aos_frame *aos)
+{
+    static const struct setting settings[] = {SEND(1, 4, 0), RECEIVE(1, 4, 100, 0)};
+    static struct input input;
+    for (unsigned side = 0; side < 2; side++) {
+        start_input(&input, side == 0 ? CALL_SECURE : CALL_CHECK, &settings[side]);
+        place_association(&input, 4, aos->spacecraft, aos->channel, 0);
+        input.numbers[0] = 63;
+        input.frame_length = octets_of(aos->header, input.frame) + 14;
+        input.frame[6] = 0;
+        input.frame[7] = 9;
+        expect(both_run(&test_random, &input).answer == (side == 0 ? aos->secured : aos->checked), aos->name, "another answer");
+    }
     passed++;
 }
 
@@ -297,6 +388,12 @@ int main(void)
     }
     for (size_t i = 0; i < sizeof cuts / sizeof cuts[0]; i++) {
         try_cut(&cuts[i]);
+    }
+    for (size_t i = 0; i < sizeof aos_images / sizeof aos_images[0]; i++) {
+        try_aos_image(&aos_images[i]);
+    }
+    for (size_t i = 0; i < sizeof aos_frames / sizeof aos_frames[0]; i++) {
+        try_aos_frame(&aos_frames[i]);
     }
     try_listing("listing of B", &new_image, 0, "spi service kind direction state window next\n9 1 1 1 2 100 64\n");
     try_listing("listing of K", &last_image, 0, "spi service kind direction state window next\n9 1 1 1 2 100 none\n");

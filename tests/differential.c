@@ -1,4 +1,4 @@
-/* The module and the independent reading of document 01 on the same inputs: answer, length, stores, image, numbers and output are compared
+/* The module and the independent reading of the papers on the same inputs: answer, length, stores, image, numbers and output are compared
  * after every call, refused ones too, with guards around every range (support/both.h).
  *
  *   differential [--seed S] [--count N] [--from W]
@@ -14,7 +14,7 @@
 #include <stdio.h>
 #include <string.h>
 
-enum { CALLS_PER_WORLD = 40, ANSWERS = 12, ENOUGH_FOR_EVERY_ANSWER = 50000 };
+enum { CALLS_PER_WORLD = 40, KINDS = 4, ANSWERS = 12, ENOUGH_FOR_EVERY_ANSWER = 50000 };
 
 struct run {
     struct options options;
@@ -24,7 +24,7 @@ struct run {
     uint64_t round_trips;
     uint64_t isolations;
     uint64_t stores[MOST_STORES + 1]; /* checks that were done, by their stores */
-    uint64_t tally[3][4][3][ANSWERS]; /* call; kind, or 0 for a number that names none; service, or 0 for an empty image; answer */
+    uint64_t tally[3][KINDS + 1][3][ANSWERS]; /* call; kind, or 0 for a number that names none; service, or 0 for an empty image; answer */
 };
 
 /* The entry that an input is made for. An empty image has none, and gets an association that it does not hold. */
@@ -109,10 +109,10 @@ static void strain_field(struct random *random, struct input *input)
     struct association *entry = &table.entries[random_below(random, (uint32_t)table.count)];
     switch (random_below(random, 11)) {
     case 0: entry->service = RANDOM_OF(random, 0, 3, 255); break;
-    case 1: entry->kind = RANDOM_OF(random, 0, 1, 2, 3, 4, 255); break;
+    case 1: entry->kind = RANDOM_OF(random, 0, 1, 2, 3, 4, 5, 255); break;
     case 2: entry->direction = RANDOM_OF(random, 0, 1, 2, 3, 255); break;
     case 3: entry->state = RANDOM_OF(random, 0, 1, 2, 3, 255); break;
-    case 4: entry->spacecraft = RANDOM_OF(random, 1023, 1024, 65535); break;
+    case 4: entry->spacecraft = RANDOM_OF(random, 255, 256, 1023, 1024, 65535); break;
     case 5: entry->channel = RANDOM_OF(random, 7, 8, 63, 64, 255); break;
     case 6: entry->map = RANDOM_OF(random, 0, 1, 63, 64, 255); break;
     case 7: entry->window = RANDOM_OF(random, 0, 1, 1024, 1025, 65535); break;
@@ -202,7 +202,7 @@ static void break_numbers(struct random *random, struct input *input)
 static void set_frame_length(struct input *input, size_t length, bool fixes_field)
 {
     input->frame_length = length;
-    if (fixes_field && input->kind != 3 && length >= 4 && length <= 1024) {
+    if (fixes_field && has_length_field(input->kind) && length >= 4 && length <= 1024) {
         write_tc_length(input->frame, length);
     }
 }
@@ -309,7 +309,7 @@ static void break_rest(struct random *random, struct input *input)
     if (random_percent(random, 4)) {
         input->kind = (uint8_t)random_below(random, 256);
     } else if (random_percent(random, 3)) {
-        input->kind = (uint8_t)random_between(random, 1, 3);
+        input->kind = (uint8_t)random_between(random, 1, KINDS);
     }
 }
 
@@ -320,7 +320,7 @@ static void count_outcome(struct run *run, const struct input *input, const stru
     unsigned kind = input->which == CALL_LOAD ? target->association.kind : input->kind;
     unsigned service = target->is_held ? target->association.service : 0;
     run->inputs++;
-    run->tally[input->which][kind <= 3 ? kind : 0][service][outcome->answer]++;
+    run->tally[input->which][kind <= KINDS ? kind : 0][service][outcome->answer]++;
     if (input->which == CALL_CHECK && outcome->answer == 0) {
         run->stores[outcome->stores]++;
     }
@@ -629,7 +629,7 @@ static unsigned faults_of_row(unsigned which, const uint64_t answers[ANSWERS])
 static unsigned print_tally(const struct run *run)
 {
     static const char *const calls[] = {"load", "secure", "check"};
-    static const char *const names[] = {"-", "1", "2", "3"};
+    static const char *const names[KINDS + 1] = {"-", "1", "2", "3", "4"};
     unsigned faults = 0;
     printf("%-6s %4s %7s", "call", "kind", "service");
     for (unsigned answer = 0; answer < ANSWERS; answer++) {
@@ -637,7 +637,7 @@ static unsigned print_tally(const struct run *run)
     }
     putchar('\n');
     for (unsigned which = 0; which < 3; which++) {
-        for (unsigned kind = 0; kind < 4; kind++) {
+        for (unsigned kind = 0; kind <= KINDS; kind++) {
             for (unsigned service = 0; service < 3; service++) {
                 bool is_whole = kind != 0 && service != 0;
                 print_row(calls[which], names[kind], names[service], run->tally[which][kind][service]);

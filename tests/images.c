@@ -24,10 +24,10 @@ static void strain(struct random *random, struct table *table, unsigned field)
     switch (field) {
     case 0: entry->spi = RANDOM_OF(random, 0, 1, 65534, 65535); break;
     case 1: entry->service = RANDOM_OF(random, 0, 1, 2, 3, 255); break;
-    case 2: entry->kind = RANDOM_OF(random, 0, 1, 2, 3, 4, 255); break;
+    case 2: entry->kind = RANDOM_OF(random, 0, 1, 2, 3, 4, 5, 255); break;
     case 3: entry->direction = RANDOM_OF(random, 0, 1, 2, 3, 255); break;
     case 4: entry->state = RANDOM_OF(random, 0, 2, 3, 255); break;
-    case 5: entry->spacecraft = RANDOM_OF(random, 1023, 1024, 65535); break;
+    case 5: entry->spacecraft = RANDOM_OF(random, 255, 256, 1023, 1024, 65535); break;
     case 6: entry->channel = RANDOM_OF(random, 7, 8, 63, 64, 255); break;
     case 7: entry->map = RANDOM_OF(random, 0, 1, 63, 64, 255); break;
     case 8: entry->window = RANDOM_OF(random, 0, 1, 1024, 1025, 65535); break;

@@ -163,7 +163,7 @@ static size_t header_length(void) { return association.kind == 1 ? 5 : 6; }
 /* The receiving end of an association, and a frame for it with so much data and this number. */
 static void make_input(unsigned kind, size_t data_length, uint64_t number)
 {
-    static const uint8_t headers[3][6] = {{0x00, 0x1B, 0x14}, {0x00, 0x1B, 0x14}, {0x01, 0xBA}};
+    static const uint8_t headers[4][6] = {{0x00, 0x1B, 0x14}, {0x00, 0x1B, 0x14}, {0x01, 0xBA}, {0x46, 0xC5}};
     struct table table = {.count = 1};
     struct header header;
     uint8_t clear[LARGEST_FRAME], sequence[SEQUENCE_LENGTH];
@@ -181,7 +181,7 @@ static void make_input(unsigned kind, size_t data_length, uint64_t number)
     for (size_t i = 0; i < data_length; i++) {
         clear[header_length() + i] = (uint8_t)(200 - 3 * i);
     }
-    if (kind != 3) {
+    if (has_length_field(kind)) {
         write_tc_length(clear, clear_length);
     }
     if (!read_clear_frame(kind, clear, clear_length, &header)) {
@@ -231,7 +231,7 @@ static void break_mac(void) { frame[frame_length - 1] ^= 0x80; }
 static void leave_no_data(void)
 {
     frame_length = header_length() + 2 + SEQUENCE_LENGTH + MAC_LENGTH;
-    if (association.kind != 3) {
+    if (has_length_field(association.kind)) {
         write_tc_length(frame, frame_length);
     }
 }
@@ -283,10 +283,10 @@ static void judge(const struct trial *trial)
 
 int main(void)
 {
-    static const size_t data_lengths[] = {1, 17, 40}; /* of the kinds */
+    static const size_t data_lengths[] = {1, 17, 40, 33}; /* of the kinds */
     unsigned done = 0, refused = 0;
     watch();
-    for (unsigned kind = 1; kind <= 3; kind++) {
+    for (unsigned kind = 1; kind <= 4; kind++) {
         for (size_t i = 0; i < sizeof trials / sizeof trials[0]; i++) {
             make_input(kind, data_lengths[kind - 1], trials[i].number);
             trials[i].change();

@@ -96,11 +96,11 @@ static void make_ends(unsigned service)
 /* The largest clear frame that can be secured. A TM frame has an operational control field. */
 static void make_frame(unsigned service)
 {
-    static const uint8_t headers[3][6] = {{0x00, 0x1B, 0x14}, {0x00, 0x1B, 0x14}, {0x01, 0xBB}};
-    clear_length = (kind == 3 ? 2048 : 1024) - security_header_length(service) - MAC_LENGTH;
+    static const uint8_t headers[4][6] = {{0x00, 0x1B, 0x14}, {0x00, 0x1B, 0x14}, {0x01, 0xBB}, {0x46, 0xC5}};
+    clear_length = (has_length_field(kind) ? 1024 : 2048) - security_header_length(service) - MAC_LENGTH;
     memset(clear, 0xAA, clear_length);
     memcpy(clear, headers[kind - 1], 6);
-    if (kind != 3) {
+    if (has_length_field(kind)) {
         write_tc_length(clear, clear_length);
     }
 }
@@ -112,7 +112,7 @@ static size_t taken_by(void (*call)(void), unsigned service)
 {
     static const int patterns[] = {0x5A, 0xA5};
     size_t most = 0;
-    for (kind = 1; kind <= 3; kind++) {
+    for (kind = 1; kind <= 4; kind++) {
         for (size_t i = 0; i < sizeof patterns / sizeof patterns[0]; i++) {
             make_ends(service);
             make_frame(service);

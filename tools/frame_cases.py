@@ -1,7 +1,7 @@
 #!/usr/bin/env python3
 """Makes crates/frame_cases/stdin, the frames, and crates/frame_cases/stdout, the answers expected on them.
 
-The answers are read off document 01 ('Frames', 'The image', 'What comes back') here, over strings of bits, and not off the code:
+The answers are read off document 01 ('Frames', 'The image', 'What comes back') and document 02 (request 1) here, over strings of bits, and not off the code:
 
   python3 tools/frame_cases.py
 """
@@ -10,10 +10,12 @@ import os
 TC_FIELDS = [("version", 2), ("bypass", 1), ("control", 1), ("spare", 2), ("spacecraft", 10), ("channel", 6), ("length", 10), ("sequence", 8)]
 SEGMENT_FIELDS = [("flags", 2), ("map", 6)]
 TM_FIELDS = [("version", 2), ("spacecraft", 10), ("channel", 3), ("ocf", 1), ("master", 8), ("virtual", 8), ("status", 16)]
+AOS_FIELDS = [("version", 2), ("spacecraft", 8), ("channel", 6), ("count", 24), ("signalling", 8)]
 KINDS = {
     1: dict(fields=TC_FIELDS, largest=1024, most=(1023, 63, 0)),
     2: dict(fields=TC_FIELDS + SEGMENT_FIELDS, largest=1024, most=(1023, 63, 63)),
     3: dict(fields=TM_FIELDS, largest=2048, most=(1023, 7, 0)),
+    4: dict(fields=AOS_FIELDS, largest=2048, most=(255, 63, 0)),
 }
 
 
@@ -35,21 +37,27 @@ def unpack(kind, frame):
     return values
 
 
+def version(kind):
+    return 1 if kind == 4 else 0
+
+
 def obeys(kind, frame, secured):
     if kind not in KINDS:
         return False
     v, h = unpack(kind, frame), width(kind) // 8
     f = 4 if kind == 3 and v["ocf"] else 0
-    if len(frame) < h + (2 if secured else 1) + f or len(frame) > KINDS[kind]["largest"] or v["version"]:
+    if len(frame) < h + (2 if secured else 1) + f or len(frame) > KINDS[kind]["largest"] or v["version"] != version(kind):
         return False
+    if kind == 4:
+        return True
     if kind == 3:
         return v["status"] < 2 ** 15
     return v["control"] == 0 and v["spare"] == 0 and v["length"] == len(frame) - 1
 
 
 def holds_length(kind, frame):
-    """A TM frame has no length field, and fewer than four octets do not reach over that of TC."""
-    return kind != 3 and len(frame) >= 4
+    """TM and AOS frames have no length field, and fewer than four octets do not reach over that of TC."""
+    return kind < 3 and len(frame) >= 4
 
 
 def rewritten(kind, frame, n):
@@ -86,24 +94,25 @@ def main():
             cases.append((number, secured, security, mask, frame))
 
     masks = [b"\xff" * 6, bytes(6), b"\x0f\xf0\xaa\x55\x33\xcc", b"\x03\xff\xfc", b""]
-    for number in (1, 2, 3):
+    for number in KINDS:
         fields, largest, h = KINDS[number]["fields"], KINDS[number]["largest"], width(number) // 8
         sizes = set(range(0, h + 12)) | set(range(h + 19, h + 38)) | {largest + d for d in (-31, -30, -29, -23, -22, -21, -1, 0, 1)} | {256, 257, 512, 768}
         for ocf in (0, 1) if number == 3 else (0,):
             for n in sorted(sizes):
                 for wrong in (0, 1, 1023) if number < 3 else (0,):
-                    good = dict(spacecraft=27, channel=5, map=9, sequence=77, ocf=ocf, length=(n - 1 + wrong) % 1024)
+                    good = dict(version=version(number), spacecraft=27, channel=5, map=9, sequence=77, ocf=ocf, length=(n - 1 + wrong) % 1024)
                     add(number, pack(number, good), n, (6, 14)[n % 2])
         # each field by each of its bits, and all of them, on a frame that is well formed but for it
         for name, bits in fields:
             for value in [1 << b for b in range(bits)] + [2 ** bits - 1]:
-                good = dict(spacecraft=27, channel=5, map=9, length=39)
+                good = dict(version=version(number), spacecraft=27, channel=5, map=9, length=39)
                 good[name] = value
                 add(number, pack(number, good), 40, 14)
         for mask in masks:
             for n in (0, 3, h - 1, h, h + 1, 40):
-                add(number, pack(number, dict(spacecraft=1023, channel=5, bypass=1, sequence=255, map=63, flags=3, length=39)), n, 6, mask)
-    for number in (0, 4, 17, 255):
+                most = dict(spacecraft=KINDS[number]["most"][0], channel=5, bypass=1, sequence=255, map=63, flags=3, count=2**24 - 1, length=39)
+                add(number, pack(number, dict(most, version=version(number))), n, 6, mask)
+    for number in (0, 5, 17, 255):
         add(number, pack(1, dict(spacecraft=27, channel=5, length=5)), 6)
     # case C of the paper
     add(1, bytes.fromhex("001b140500aa"), 6)

@@ -149,7 +149,15 @@ TM = [
     ("flag", 1, FIXED, "0"),
     ("rest of the data field status", 15, FREE, "any"),
 ]
-MEANINGS = [(FIXED, "must be 0"), (FREE, "may hold anything"), (NAMES, "names the channel"), (LENGTH, "says how long")]
+AOS = [
+    ("version", 2, FIXED, "01"),
+    ("spacecraft", 8, NAMES, "0 to 255"),
+    ("virtual channel", 6, NAMES, "0 to 63"),
+    ("frame count, first part", 16, FREE, "any"),
+    ("frame count, last part", 8, FREE, "any"),
+    ("signalling", 8, FREE, "any"),
+]
+MEANINGS = [(FIXED, "fixed"), (FREE, "may hold anything"), (NAMES, "names the channel"), (LENGTH, "says how long")]
 
 
 def header(name, title, note, fields, octets):
@@ -196,6 +204,13 @@ def tm_header():
     note = "OCF flag 1: the last 4 octets of the frame are the operational control field. Largest frame: 2,048 octets."
     p = header("tm-header", "TM header (kind 3): 6 octets", note, TM, 6)
     p.note(p.bottom + 20, "The flag that opens the data field status would announce a secondary header.")
+    return p
+
+
+def aos_header():
+    note = "There is no length field and no OCF. Largest frame: 2,048 octets."
+    p = header("aos-header", "AOS header (kind 4): 6 octets", note, AOS, 6)
+    p.note(p.bottom + 20, "The frame count has 24 bits, octets 2 to 4.")
     return p
 
 
@@ -264,9 +279,9 @@ def secured(service):
     name = f"secured-service-{service}"
     p = Picture(name, f"Service {service}, {what}: a clear frame and the secured one")
     size = 6 if service == 1 else 14
-    sizes = f"h is 5 for kind 1 and 6 for kinds 2 and 3; n is at least 1. The secured frame is {size + 16} octets longer."
+    sizes = f"h is 5 for kind 1 and 6 for kinds 2 to 4; n is at least 1. The secured frame is {size + 16} octets longer."
     heading(p, p.title, sizes + " Widths are not to scale.")
-    p.text(LEFT, 80, "Without OCF: TC, and TM with OCF flag 0", 14, "start", "bold")
+    p.text(LEFT, 80, "Without OCF: TC, AOS, and TM with OCF flag 0", 14, "start", "bold")
     secured_rows(p, 110, service, False)
     y = p.bottom + 34
     p.text(LEFT, y, "With OCF: TM with OCF flag 1", 14, "start", "bold")
@@ -336,11 +351,11 @@ def body():
     rows = [
         [
             ("service", 1, SORT, ["1, 2"]),
-            ("kind", 1, SORT, ["1 to 3"]),
+            ("kind", 1, SORT, ["1 to 4"]),
             ("direc-", 1, SORT, ["*tion", "1, 2"]),
             ("state", 1, SORT, ["0 to 2"]),
-            ("spacecraft", 2, NAMES, ["0 to 1,023"]),
-            ("virtual", 1, NAMES, ["*channel", "TC 0-63", "TM 0-7"]),
+            ("spacecraft", 2, NAMES, ["0 to 1,023;", "AOS to 255"]),
+            ("virtual", 1, NAMES, ["*channel", "0-63;", "TM 0-7"]),
             ("MAP", 1, NAMES, ["kind 2:", "0-63,", "else 0"]),
             ("window", 2, NUMBER, ["1 to 1,024"]),
             ("header mask", 6, FREE, ["any; for kind 1 the last octet is 0"]),
@@ -370,7 +385,7 @@ def body():
     last = y - 54 - 34
     p.text(x, last + 16, "The mark is the one field that the module writes.", 12.5, "start")
     p.text(x, last + 34, "Raising m by one changes one bit of the code, so one octet.", 12.5, "start")
-    p.note(y, "service: 1 authentication, 2 authenticated encryption. kind: 1 TC, 2 TC with segment header, 3 TM.")
+    p.note(y, "service: 1 authentication, 2 authenticated encryption. kind: 1 TC, 2 TC with segment header, 3 TM, 4 AOS.")
     p.note(y + 18, "direction: 1 send, 2 receive. state: 0 unkeyed, 1 keyed, 2 operational. xor: exclusive or; m/2 is rounded down.")
     legend(p, y + 46, [(SORT, "which of several"), (NAMES, "names the channel"), (NUMBER, "for the number"), (MAC, "secret")])
     return p
@@ -505,7 +520,7 @@ def layers():
     return p
 
 
-PICTURES = [tc_header, tc_segment_header, tm_header, lambda: secured(1), lambda: secured(2), image, body, packed_result, layers]
+PICTURES = [tc_header, tc_segment_header, tm_header, aos_header, lambda: secured(1), lambda: secured(2), image, body, packed_result, layers]
 
 
 def main(arguments):

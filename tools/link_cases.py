@@ -1,7 +1,7 @@
 #!/usr/bin/env python3
 """Makes crates/link_cases/stdin, calls of the module, and crates/link_cases/stdout, what is expected to come back and to change.
 
-All of it is read off document 01 here, over whole numbers and strings of octets, and not off the code; AES is OpenSSL's. Each call below
+All of it is read off document 01, and request 1 of document 02, here, over whole numbers and strings of octets, and not off the code; AES is OpenSSL's. Each call below
 states the answer that the paper gives it, and the reading is held to that as well:
 
   python3 tools/link_cases.py        (needs the Python package `cryptography`)
@@ -15,8 +15,8 @@ from cryptography.hazmat.primitives.ciphers.algorithms import AES
 from cryptography.hazmat.primitives.cmac import CMAC
 
 MOST = 2**32 - 1
-HEADER = {1: 5, 2: 6, 3: 6}
-LARGEST = {1: 1024, 2: 1024, 3: 2048}
+HEADER = {1: 5, 2: 6, 3: 6, 4: 6}
+LARGEST = {1: 1024, 2: 1024, 3: 2048, 4: 2048}
 SECURITY = {1: 6, 2: 14}
 FIELDS = dict(service=1, kind=1, direction=1, state=1, spacecraft=2, channel=1, map=1, window=2, mask=6, key=32, code=4)
 
@@ -77,10 +77,10 @@ def is_allowed(e):
     return (
         1 <= e.spi <= 65534
         and e.service in (1, 2)
-        and e.kind in (1, 2, 3)
+        and e.kind in (1, 2, 3, 4)
         and e.direction in (1, 2)
         and e.state in (0, 1, 2)
-        and e.spacecraft <= 1023
+        and e.spacecraft <= (255 if e.kind == 4 else 1023)
         and e.channel <= (7 if e.kind == 3 else 63)
         and e.map <= (63 if e.kind == 2 else 0)
         and 1 <= e.window <= 1024
@@ -136,9 +136,15 @@ def tm(data, ocf=b"", counts=(0, 0), status=0, spacecraft=27, channel=5, version
     return header + data + ocf
 
 
+def aos(data, count=0, signalling=0, spacecraft=27, channel=5, version=1):
+    return packed((version, 2), (spacecraft, 8), (channel, 6), (count, 24), (signalling, 8)) + data
+
+
 def clear(kind, data, ocf=b"", **fields):
     if kind == 3:
         return tm(data, ocf, **fields)
+    if kind == 4:
+        return aos(data, **fields)
     return tc(HEADER[kind] + len(data), data, segment=(3, 9) if kind == 2 else None, **fields)
 
 
@@ -150,8 +156,12 @@ def is_frame(kind, frame, least):
     """Whether the frame keeps its kind's header rules, length field and size: with at least so many octets behind its header."""
     if kind not in HEADER or not HEADER[kind] <= len(frame) <= LARGEST[kind]:
         return False
-    if len(frame) < HEADER[kind] + least + trailer(kind, frame) or bits(frame, 0, 2):
+    if len(frame) < HEADER[kind] + least + trailer(kind, frame):
         return False
+    if bits(frame, 0, 2) != (1 if kind == 4 else 0):
+        return False
+    if kind == 4:
+        return True
     if kind == 3:
         return bits(frame, 32, 1) == 0
     return bits(frame, 3, 1) == 0 and bits(frame, 4, 2) == 0 and bits(frame, 22, 10) == len(frame) - 1
@@ -160,6 +170,8 @@ def is_frame(kind, frame, least):
 def identifiers(kind, frame):
     if kind == 3:
         return bits(frame, 2, 10), bits(frame, 12, 3), 0
+    if kind == 4:
+        return bits(frame, 2, 8), bits(frame, 10, 6), 0
     return bits(frame, 6, 10), bits(frame, 16, 6), bits(frame, 42, 6) if kind == 2 else 0
 
 
@@ -204,7 +216,7 @@ def secured_frame(e, kind, frame, n, slip=None):
     h, f = HEADER[kind], trailer(kind, frame)
     header, data, ocf = frame[:h], frame[h : len(frame) - f], frame[len(frame) - f :]
     size = len(frame) + SECURITY[e.service] + 16
-    sent = header if kind == 3 else header[:2] + packed((bits(header, 16, 6), 6), (size - 1, 10)) + header[4:]
+    sent = header if kind in (3, 4) else header[:2] + packed((bits(header, 16, 6), 6), (size - 1, 10)) + header[4:]
     iv = n.to_bytes(SECURITY[e.service] - 2, "big")
     security = e.spi.to_bytes(2, "big") + iv
     before = masked(sent, e.mask) + security
@@ -463,7 +475,7 @@ def cases_i_to_o(run):
 
 # 'Slips that look right'
 
-MASKS = {1: bytes.fromhex("1ff7fbfd7e00"), 2: bytes.fromhex("1ff7fbfd7ebf"), 3: bytes.fromhex("f03ffe5aa57f")}
+MASKS = {1: bytes.fromhex("1ff7fbfd7e00"), 2: bytes.fromhex("1ff7fbfd7ebf"), 3: bytes.fromhex("f03ffe5aa57f"), 4: bytes.fromhex("5aa5f03fc37e")}
 
 
 def random_frame(kind, has_ocf, size, rng):
@@ -472,6 +484,8 @@ def random_frame(kind, has_ocf, size, rng):
     if kind == 3:
         counts = (rng.randrange(256), rng.randrange(256))
         return tm(data, ocf, counts, rng.randrange(2**15), spacecraft=0x2B5, channel=6)
+    if kind == 4:
+        return aos(data, rng.randrange(2**24), rng.randrange(256), spacecraft=0xB5, channel=0x35)
     segment = (rng.randrange(4), 0x2D) if kind == 2 else None
     header = dict(bypass=rng.randrange(2), sequence=rng.randrange(256), spacecraft=0x2B5, channel=0x35)
     return tc(HEADER[kind] + size, data, segment=segment, **header)
@@ -479,17 +493,17 @@ def random_frame(kind, has_ocf, size, rng):
 
 def pair(kind, service, rng):
     """Both ends of an association."""
-    channel, map = 6 if kind == 3 else 0x35, 0x2D if kind == 2 else 0
-    here = Entry(rng.randrange(256, 65535), service, kind, 1, 2, 0x2B5, channel, map, 64, MASKS[kind], rng.randbytes(32))
+    spacecraft, channel, map = 0xB5 if kind == 4 else 0x2B5, 6 if kind == 3 else 0x35, 0x2D if kind == 2 else 0
+    here = Entry(rng.randrange(256, 65535), service, kind, 1, 2, spacecraft, channel, map, 64, MASKS[kind], rng.randbytes(32))
     return here, replace(here, direction=2)
 
 
 def slips_of(kind, has_ocf):
-    return [s for s in SLIPS if (s != "old length" or kind != 3) and (s != "OCF covered" or has_ocf)]
+    return [s for s in SLIPS if (s != "old length" or kind < 3) and (s != "OCF covered" or has_ocf)]
 
 
 def slips(run, rng):
-    for kind, has_ocf in ((1, False), (2, False), (3, False), (3, True)):
+    for kind, has_ocf in ((1, False), (2, False), (3, False), (3, True), (4, False)):
         for service in (1, 2):
             here, there = pair(kind, service, rng)
             last = rng.randrange(1000, 2**31)
@@ -540,14 +554,16 @@ def old_numbers(run):
 
 SEGMENT = replace(B, kind=2, map=9, mask=b"\xff" * 6)
 TELEMETRY = replace(B, kind=3, mask=b"\xff" * 6)
-OUTSIDE = dict(service=(0, 3), kind=(0, 4), direction=(0, 3), state=(3,), spacecraft=(1024,), window=(0, 1025), code=(2**26, 2**31))
+CAMERAS = replace(B, kind=4, mask=b"\xff" * 6)
+OUTSIDE = dict(service=(0, 3), kind=(0, 5, 255), direction=(0, 3), state=(3,), spacecraft=(1024,), window=(0, 1025), code=(2**26, 2**31))
 
 
 def broken_entries():
     """Entries with one field that is not allowed."""
     yield from (replace(B, **{name: x}) for name, values in OUTSIDE.items() for x in values)
     yield from (replace(B, channel=64), replace(TELEMETRY, channel=8), replace(SEGMENT, map=64))
-    yield from (replace(e, map=x) for e in (B, TELEMETRY) for x in (1, 32))
+    yield from (replace(CAMERAS, spacecraft=256), replace(CAMERAS, spacecraft=1023), replace(CAMERAS, channel=64))
+    yield from (replace(e, map=x) for e in (B, TELEMETRY, CAMERAS) for x in (1, 32))
     yield replace(B, mask=b"\xff" * 5 + b"\x01")
 
 
@@ -567,6 +583,7 @@ def extremes():
     """Entries at the ends of what is allowed."""
     yield replace(B, spi=1, window=1, spacecraft=0, channel=0, mask=bytes(6))
     yield replace(B, spi=2, service=2, kind=2, direction=2, state=0, spacecraft=1023, channel=63, map=63, window=1024, mask=b"\xff" * 6)
+    yield replace(CAMERAS, spi=65533, service=2, spacecraft=255, channel=63, mask=b"\xff" * 6)
     yield replace(B, spi=65534, kind=3, state=1, channel=7, mask=b"\xff" * 6, mark=2**26 - 1, key=b"\xff" * 32)
 
 
@@ -626,7 +643,7 @@ def ask(run, e, answer, n=64):
     """A frame of the association at its end: secured there, or checked with this number."""
     address = dict(spacecraft=e.spacecraft, channel=e.channel)
     segment = (3, e.map) if e.kind == 2 else None
-    frame = tm(b"data", **address) if e.kind == 3 else tc(HEADER[e.kind] + 4, b"data", segment=segment, **address)
+    frame = clear(e.kind, b"data", **address) if e.kind > 2 else tc(HEADER[e.kind] + 4, b"data", segment=segment, **address)
     if e.direction == 1:
         run.secure(e.kind, e.spi, frame, answer)
     else:
@@ -665,9 +682,9 @@ def three_entries(run):
 
 
 def identifier_bits(run):
-    for kind in (1, 2, 3):
-        here = replace(B, spi=0x1234, kind=kind, spacecraft=0x155, map=9 if kind == 2 else 0, mask=MASKS[kind])
-        widths = dict(spi=16, spacecraft=10, channel=3 if kind == 3 else 6, map=6 if kind == 2 else 0)
+    for kind in HEADER:
+        here = replace(B, spi=0x1234, kind=kind, spacecraft=0x55 if kind == 4 else 0x155, map=9 if kind == 2 else 0, mask=MASKS[kind])
+        widths = dict(spi=16, spacecraft=8 if kind == 4 else 10, channel=3 if kind == 3 else 6, map=6 if kind == 2 else 0)
         run.case("4: kind %d: a bit of the SPI or of an identifier differs" % kind)
         for e in (here, replace(here, direction=2)):
             run.fresh(*among(1, e, [UNKEYED, KEYED]))
@@ -677,30 +694,51 @@ def identifier_bits(run):
             ask(run, e, 0)
 
 
+def aos_fields(run):
+    """Frames that would be the association's if a field of AOS were read where another kind, or a slip, has it."""
+    run.case("AOS: channel bits read as TM's and as TC's, spacecraft of 10 bits and of 6; frame count and signalling are free")
+    here = replace(CAMERAS, spacecraft=104, channel=5)
+    slips = [aos(b"data", spacecraft=104, channel=10), aos(b"data", spacecraft=104, channel=6, count=5 << 18)]
+    slips += [packed((1, 2), (104, 10), (5, 4)) + bytes(4) + b"data", packed((1, 2), (104 >> 2, 6), (1, 2), (5, 6)) + bytes(4) + b"data"]
+    for e in (here, replace(here, direction=2)):
+        run.fresh(e)
+        for frame in slips:
+            assert identifiers(4, frame) != (104, 5, 0)
+            if e.direction == 1:
+                run.secure(4, 9, frame, 4)
+            else:
+                run.check(4, secured_frame(e, 4, frame, 64), 4)
+    run.fresh(here)
+    run.secure(4, 9, aos(b"data", 2**24 - 1, 255, spacecraft=104), 0)
+
+
 def frame_refusals(run):
     """3, of clear frames and of secured ones, under an association of their kind."""
-    for kind, ocf in ((1, b""), (2, b""), (3, b""), (3, b"ocf.")):
+    for kind, ocf in ((1, b""), (2, b""), (3, b""), (3, b"ocf."), (4, b"")):
         here = Entry(9, 1, kind, 1, map=9 if kind == 2 else 0, mask=MASKS[kind])
         there, h, f, data = replace(here, direction=2), HEADER[kind], len(ocf), b"data"
         run.case("3: kind %d%s" % (kind, " with OCF" if ocf else ""))
         good = clear(kind, data, ocf)
-        wrong = [clear(kind, b"", ocf), good[:h], good[:3], b"", clear(kind, data, ocf, version=1), clear(kind, data, ocf, version=2)]
+        wrong = [clear(kind, b"", ocf), good[:h], good[:3], b""]
+        wrong += [clear(kind, data, ocf, version=v) for v in ((0, 2, 3) if kind == 4 else (1, 2))]
         if kind == 3:
             wrong += [tm(bytes(2049 - h - f), ocf), tm(data, ocf, status=2**15)]
+        elif kind == 4:
+            wrong += [aos(bytes(2049 - h))]
         else:
             wrong += [clear(kind, data, control=1), clear(kind, data, spare=1), clear(kind, data, spare=2), good + b"\x00", good[:-1]]
             wrong += [tc(1, bytes(1025 - h), segment=(3, 9) if kind == 2 else None)]
         run.fresh(here)
         for frame in wrong:
             run.secure(kind, 9, frame, 3)
-        for other in (0, 4, 255):
+        for other in (0, 5, 255):
             run.secure(other, 9, good, 3)
         sent = run.secure(kind, 9, clear(kind, b"d", ocf), 0, room=h + 1 + f + 22)
         assert len(sent) == h + 1 + f + 22
         run.fresh(there)
         for frame in wrong + [clear(kind, b"d", ocf)]:
             run.check(kind, frame, 3)
-        for other in (0, 4, 255):
+        for other in (0, 5, 255):
             run.check(other, secured_frame(here, kind, good, 64), 3)
         run.case("5: too short for its security header, a MAC and data")
         shortest = len(secured_frame(here, kind, clear(kind, b"d", ocf), 64))
@@ -711,7 +749,7 @@ def frame_refusals(run):
 
 
 def entry_refusals(run):
-    for kind in (1, 2, 3):
+    for kind in HEADER:
         e, frame = replace(B, kind=kind, map=9 if kind == 2 else 0, mask=MASKS[kind]), clear(kind, b"data")
         run.case("4: kind %d: no entry, or one that differs in what is matched" % kind)
         changes = [dict(spi=8), dict(spi=10), dict(state=0), dict(state=1), dict(spacecraft=28), dict(channel=4)]
@@ -736,7 +774,7 @@ def orders(run):
     run.image(image_of(replace(B, window=0)))
     run.secure(1, 9, C, 1)
     run.image(image_of(B))
-    run.secure(4, 9, C, 2)
+    run.secure(5, 9, C, 2)
     run.load()
     run.secure(1, 10, C + b"\x00", 3)
     run.secure(1, 10, long, 4, room=0)
@@ -755,7 +793,7 @@ def orders(run):
     run.image(image_of(replace(RECEIVING, window=0)))
     run.check(1, frame, 1)
     run.image(image_of(RECEIVING))
-    run.check(4, frame, 2)
+    run.check(5, frame, 2)
     run.load()
     run.check(1, short + b"\x00", 3)
     run.check(1, short, 4, room=0)
@@ -779,7 +817,7 @@ def sends_in_a_row(run):
 
 def longest(run):
     run.case("the longest frames of each kind and service, and what is longer by one")
-    for kind, ocf in ((1, b""), (2, b""), (3, b""), (3, b"ocf.")):
+    for kind, ocf in ((1, b""), (2, b""), (3, b""), (3, b"ocf."), (4, b"")):
         for service in (1, 2):
             here = Entry(300, service, kind, 1, map=9 if kind == 2 else 0, mask=MASKS[kind])
             most = LARGEST[kind] - SECURITY[service] - 16 - HEADER[kind] - len(ocf)
@@ -800,6 +838,7 @@ def main():
     image_refusals(run)
     three_entries(run)
     frame_refusals(run)
+    aos_fields(run)
     entry_refusals(run)
     identifier_bits(run)
     orders(run)

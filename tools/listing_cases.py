@@ -1,7 +1,7 @@
 #!/usr/bin/env python3
 """Makes the images and the expected listings of crates/listing and crates/listing_cases, their files stdin and stdout.
 
-The rules are read off document 01 ('The image', 'The listing program') here, and not off the code:
+The rules are read off document 01 ('The image', 'The listing program') and document 02 (request 1) here, and not off the code:
 
   python3 tools/listing_cases.py
 """
@@ -13,6 +13,8 @@ REFUSED = "refused 1\n"
 # A body in its octets' order: a field's name and how many octets it has.
 BODY = [("service", 1), ("kind", 1), ("direction", 1), ("state", 1), ("spacecraft", 2), ("channel", 1), ("map", 1)]
 BODY += [("window", 2), ("mask", 6), ("key", 32), ("code", 4)]
+# The most of spacecraft, channel and MAP, by kind.
+MOST = {1: (1023, 63, 0), 2: (1023, 63, 63), 3: (1023, 7, 0), 4: (255, 63, 0)}
 CASE_B = dict(spi=9, service=1, kind=1, direction=1, state=2, spacecraft=27, channel=5, map=0, window=100, mask=0, key=0, code=0)
 
 
@@ -58,14 +60,14 @@ def fields_of(body):
 
 
 def body_ok(b):
-    if b["kind"] not in (1, 2, 3):
+    if b["kind"] not in MOST:
         return False
-    most_channel, most_map = {1: (63, 0), 2: (63, 63), 3: (7, 0)}[b["kind"]]
+    most_spacecraft, most_channel, most_map = MOST[b["kind"]]
     return (
         b["service"] in (1, 2)
         and b["direction"] in (1, 2)
         and b["state"] in (0, 1, 2)
-        and b["spacecraft"] <= 1023
+        and b["spacecraft"] <= most_spacecraft
         and b["channel"] <= most_channel
         and b["map"] <= most_map
         and 1 <= b["window"] <= 1024
@@ -93,13 +95,13 @@ def listing(data):
 # ---- the cases
 
 # A field that is not allowed, in an entry that is right but for it.
-OUTSIDE = [("service", 0), ("service", 3), ("kind", 0), ("kind", 4), ("direction", 0), ("direction", 3), ("state", 3)]
+OUTSIDE = [("service", 0), ("service", 3), ("kind", 0), ("kind", 5), ("direction", 0), ("direction", 3), ("state", 3)]
 OUTSIDE += [("spacecraft", 1024), ("channel", 64), ("map", 1), ("window", 0), ("window", 1025), ("mask", 1), ("code", 2**26)]
 
 # The bits that are 0 in every entry of a kind that keeps the rules: the field, the lowest of them, and how many there are.
-NO_BITS = [(1, "service", 2, 6), (1, "kind", 2, 6), (1, "direction", 2, 6), (1, "state", 2, 6), (1, "spacecraft", 10, 6)]
+NO_BITS = [(1, "service", 2, 6), (1, "kind", 3, 5), (1, "direction", 2, 6), (1, "state", 2, 6), (1, "spacecraft", 10, 6)]
 NO_BITS += [(1, "window", 11, 5), (1, "mask", 0, 8), (1, "code", 26, 6), (1, "channel", 6, 2), (2, "channel", 6, 2), (3, "channel", 3, 5)]
-NO_BITS += [(1, "map", 0, 8), (2, "map", 6, 2), (3, "map", 0, 8)]
+NO_BITS += [(1, "map", 0, 8), (2, "map", 6, 2), (3, "map", 0, 8), (4, "spacecraft", 8, 8), (4, "channel", 6, 2), (4, "map", 0, 8)]
 
 
 def three(*changes):
@@ -133,6 +135,8 @@ def wholes():
     for states in ((0, 2, 1), (2, 0, 1), (0, 1, 2), (1, 0, 0)):
         yield "three entries, in states %d, %d and %d" % states, image(three(*(dict(state=state) for state in states)))
     yield "kind 2 at its limits", image([entry(kind=2, channel=63, map=63, mask=2**48 - 1)])
+    yield "kind 4 at its limits", image([entry(kind=4, spacecraft=255, channel=63, mask=2**48 - 1)])
+    yield "kind 4, both services and directions", image([entry(spi=1 + i, kind=4, service=1 + i % 2, direction=1 + i // 2) for i in range(4)])
     yield "kind 1 at its limits", image([entry(channel=63, spacecraft=1023, mask=0xFFFFFFFFFF00)])
 
 
@@ -184,6 +188,8 @@ def broken():
             yield "kind %d, bit %d of the %s" % (kind, bit, name), image([changed])
     yield "kind 2, channel 64", image([entry(kind=2, channel=64)])
     yield "kind 3, channel 8", image([entry(kind=3, channel=8)])
+    yield "kind 4, channel 64", image([entry(kind=4, channel=64)])
+    yield "kind 4, spacecraft 256", image([entry(kind=4, spacecraft=256)])
     yield "mark 2^26", image([entry(code=gray(2**26))])
     yield "mark 2^32 - 1", image([entry(code=gray(2**32 - 1))])
     yield "a broken body behind 31 good ones", image(full[:31] + [entry(spi=32, window=0)])

@@ -4,7 +4,7 @@ import ctypes
 
 NUMBERS = 32
 LARGEST_FRAME = 2048
-TC, TC_SEGMENT, TM = 1, 2, 3
+TC, TC_SEGMENT, TM, AOS = 1, 2, 3, 4
 
 ANSWERS = (
     "done",

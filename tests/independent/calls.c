@@ -58,7 +58,7 @@ size_t protect_frame(const struct association *association, const struct header 
     uint8_t head[LARGEST_FRAME];
 
     memcpy(place, clear, header->length);
-    if (association->kind != 3) {
+    if (has_length_field(association->kind)) {
         write_tc_length(secured, secured_length); /* 'for the longer frame before the MAC' */
     }
     place += header->length;

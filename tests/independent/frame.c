@@ -1,4 +1,4 @@
-/* Document 01, 'Frames': the two headers, bit after bit, and the rules of answer 3. */
+/* Document 01, 'Frames', and document 02, request 1: the three headers, bit after bit, and the rules of answer 3. */
 #include "reading.h"
 
 /* 'the first bit is the most significant' */
@@ -57,6 +57,18 @@ static bool read_tm_header(const uint8_t *frame, struct header *header)
     return version == 0 && secondary_header == 0;
 }
 
+/* Document 02, request 1: 'version bits 01, spacecraft 8 bits, channel 6, frame count 24, signalling 8, the last two free', 'no OCF' */
+static bool read_aos_header(const uint8_t *frame, struct header *header)
+{
+    struct bits bits = {frame, 0};
+    unsigned version = take(&bits, 2);
+    header->spacecraft = take(&bits, 8);
+    header->channel = take(&bits, 6);
+    header->map = 0;
+    header->trailer = 0;
+    return version == 1;
+}
+
 /* The header rules, the length field, and 'above largest'. A frame too short to hold its header is below every size that is asked for. */
 static bool read_header(unsigned kind, const uint8_t *frame, size_t length, struct header *header)
 {
@@ -70,6 +82,7 @@ static bool read_header(unsigned kind, const uint8_t *frame, size_t length, stru
         header->largest = 1024;
         break;
     case 3:
+    case 4:
         header->length = 6;
         header->largest = 2048;
         break;
@@ -79,7 +92,20 @@ static bool read_header(unsigned kind, const uint8_t *frame, size_t length, stru
     if (length < header->length || length > header->largest) {
         return false;
     }
-    return kind == 3 ? read_tm_header(frame, header) : read_tc_header(kind == 2, frame, length, header);
+    switch (kind) {
+    case 3:
+        return read_tm_header(frame, header);
+    case 4:
+        return read_aos_header(frame, header);
+    default:
+        return read_tc_header(kind == 2, frame, length, header);
+    }
+}
+
+/* 'length 10 (all octets of the frame less one)' is a field of TC alone. */
+bool has_length_field(unsigned kind)
+{
+    return kind == 1 || kind == 2;
 }
 
 /* 'clear below h+1+f' */

@@ -1,4 +1,4 @@
-/* Document 01, 'The image'. */
+/* Document 01, 'The image'; document 02, request 1, for kind 4. */
 #include "reading.h"
 
 #include <string.h>
@@ -69,16 +69,16 @@ static void read_body(struct cursor *cursor, struct association *body)
     body->mark = mark_of_code(take_four(cursor));
 }
 
-/* The column 'allowed'. Two equal keys of service 2 break no rule: the key office's word is no rule of the image. */
+/* The column 'allowed'; 'For kind 4 the image allows spacecraft up to 255, channel up to 63, MAP 0'. Two equal keys of service 2 break no
+ * rule: the key office's word is no rule of the image. */
 static bool body_obeys(const struct association *body)
 {
-    bool is_telecommand = body->kind == 1 || body->kind == 2;
     return is_within(body->service, 1, 2)
-        && is_within(body->kind, 1, 3)
+        && is_within(body->kind, 1, 4)
         && is_within(body->direction, 1, 2)
         && is_within(body->state, 0, 2)
-        && is_within(body->spacecraft, 0, 1023)
-        && is_within(body->channel, 0, is_telecommand ? 63 : 7)
+        && is_within(body->spacecraft, 0, body->kind == 4 ? 255 : 1023)
+        && is_within(body->channel, 0, body->kind == 3 ? 7 : 63)
         && is_within(body->map, 0, body->kind == 2 ? 63 : 0)
         && is_within(body->window, 1, 1024)
         && (body->kind != 1 || body->mask[MASK_LENGTH - 1] == 0)

@@ -1,5 +1,5 @@
-/* An independent reading of document 01, the module's scope paper, over OpenSSL's AES. Nothing here comes from the module's own code: it
- * was written from the paper alone, so that a mistake in reading would have to be made twice.
+/* An independent reading of document 01, the module's scope paper, and of the requests of document 02 that have landed, over OpenSSL's AES.
+ * Nothing here comes from the module's own code: it was written from the papers alone, so that a mistake in reading would have to be made twice.
  *
  * A call is read as a function: from what the caller lends (struct call) to what is to happen (struct effect). It changes nothing itself.
  * Whoever wants the state afterwards carries the effect out; whoever wants a cut carries out the first j of its stores. */
@@ -75,6 +75,9 @@ struct header {
 /* True where the frame obeys its kind as a clear frame, or as a secured one. */
 bool read_clear_frame(unsigned kind, const uint8_t *frame, size_t length, struct header *header);
 bool read_secured_frame(unsigned kind, const uint8_t *frame, size_t length, struct header *header);
+
+/* Whether frames of a kind have a length field: TC alone. */
+bool has_length_field(unsigned kind);
 
 /* Writes the length field of a TC frame of this many octets. */
 void write_tc_length(uint8_t *frame, size_t length);

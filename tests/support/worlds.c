@@ -55,10 +55,12 @@ static void any_own_fields(struct random *random, struct association *associatio
 static void any_association(struct random *random, struct association *association)
 {
     association->service = random_between(random, 1, 2);
-    association->kind = random_between(random, 1, 3);
+    association->kind = random_between(random, 1, 4);
     association->direction = random_between(random, 1, 2);
+    unsigned greatest_spacecraft = association->kind == 4 ? 255 : 1023;
     association->spacecraft = random_percent(random, 50) ? RANDOM_OF(random, 0, 1, 255, 256, 511, 512, 1022, 1023)
                                                          : random_below(random, 1024);
+    association->spacecraft &= greatest_spacecraft;
     unsigned greatest_channel = association->kind == 3 ? 7 : 63;
     association->channel = random_percent(random, 40) ? greatest_channel : random_below(random, greatest_channel + 1);
     association->map = association->kind == 2 ? (random_percent(random, 40) ? 63 : random_below(random, 64)) : 0;
@@ -169,14 +171,33 @@ static size_t make_tm_header(struct random *random, const struct association *as
     return 6;
 }
 
+static size_t make_aos_header(struct random *random, const struct association *association, uint8_t *frame)
+{
+    random_octets(random, frame, 6); /* frame count and signalling are free */
+    frame[0] = (uint8_t)(0x40 | (association->spacecraft >> 2));
+    frame[1] = (uint8_t)((association->spacecraft << 6) | association->channel);
+    return 6;
+}
+
+static size_t make_header(struct random *random, const struct association *association, bool has_ocf, uint8_t *frame)
+{
+    switch (association->kind) {
+    case 3:
+        return make_tm_header(random, association, has_ocf, frame);
+    case 4:
+        return make_aos_header(random, association, frame);
+    default:
+        return make_tc_header(random, association, frame);
+    }
+}
+
 size_t make_clear_frame(struct random *random, const struct association *association, size_t data_length, uint8_t *frame)
 {
     bool has_ocf = association->kind == 3 && random_percent(random, 50);
-    size_t header = association->kind == 3 ? make_tm_header(random, association, has_ocf, frame)
-                                           : make_tc_header(random, association, frame);
+    size_t header = make_header(random, association, has_ocf, frame);
     size_t length = header + data_length + (has_ocf ? 4 : 0);
     random_octets(random, frame + header, length - header);
-    if (association->kind != 3) {
+    if (has_length_field(association->kind)) {
         write_tc_length(frame, length);
     }
     return length;
@@ -184,7 +205,7 @@ size_t make_clear_frame(struct random *random, const struct association *associa
 
 size_t any_data_length(struct random *random, const struct association *association)
 {
-    uint32_t largest = association->kind == 3 ? 2048 : 1024;
+    uint32_t largest = has_length_field(association->kind) ? 1024 : 2048;
     uint32_t added = association->service == 1 ? 22 : 30;
     uint32_t chance = random_below(random, 100);
     if (chance < 50) {

@@ -26,7 +26,7 @@ length-mask body = length-part maskPlace maskLength body
 
 -- the kind's number names one; spacecraft, virtual channel and MAP are at most what it allows, and the mask covers its header alone
 pub record KindKept (body : List ℕ) : Type 0 where
-  pub number : (1 ≤ kindIn body) × (kindIn body ≤ 3)
+  pub number : (1 ≤ kindIn body) × (kindIn body ≤ 4)
   pub isNamed : (k : code.Kind) × (named (kindIn body) ≡ naming.Kind k)
   pub spacecraft : spacecraftOf body ≤ kindOf (kindIn body) .mostSpacecraft
   pub channel : channelOf body ≤ kindOf (kindIn body) .mostChannel
@@ -46,16 +46,17 @@ pub between : (low x high : ℕ) → (leb low x && leb x high) ≡ true → (low
 between low x high e =
     (leb-true low x (and-left (leb low x) (leb x high) e), leb-true x high (and-right (leb low x) (leb x high) e))
 
-named-range : (n : ℕ) (k : code.Kind) → named n ≡ naming.Kind k → (1 ≤ n) × (n ≤ 3)
+named-range : (n : ℕ) (k : code.Kind) → named n ≡ naming.Kind k → (1 ≤ n) × (n ≤ 4)
 unfolding named
 named-range zero k e = let z : _≡_ {A = ℕ} 0 1 = cc in absurd (omega arith)
 named-range (suc zero) k e = (omega arith, omega arith)
 named-range (suc (suc zero)) k e = (omega arith, omega arith)
 named-range (suc (suc (suc zero))) k e = (omega arith, omega arith)
-named-range (suc (suc (suc (suc n)))) k e =
-    let other : ℕ = suc (suc (suc (suc n))) in
+named-range (suc (suc (suc (suc zero)))) k e = (omega arith, omega arith)
+named-range (suc (suc (suc (suc (suc n))))) k e =
+    let other : ℕ = suc (suc (suc (suc (suc n)))) in
     let none : named other ≡ naming.Nothing =
-    simp (ne-eqb other 1 (omega arith), ne-eqb other 2 (omega arith), ne-eqb other 3 (omega arith))
+    simp (ne-eqb other 1 (omega arith), ne-eqb other 2 (omega arith), ne-eqb other 3 (omega arith), ne-eqb other 4 (omega arith))
     in
     let z : _≡_ {A = ℕ} 0 1 = cc in
     absurd (omega arith)

@@ -10,6 +10,7 @@ use Rattle.octets.specs.Numbers.{number}
 use Rattle.headers.specs.Fields.{tcVersion, tcBypass, tcControl, tcSpare, tcSpacecraft, tcChannel, tcLength, tcSequence}
 use Rattle.headers.specs.Fields.{segmentFlags, segmentMap}
 use Rattle.headers.specs.Fields.{tmVersion, tmSpacecraft, tmChannel, tmOcfFlag, tmMasterCount, tmChannelCount, tmStatus, tmSecondary}
+use Rattle.headers.specs.Fields.{aosVersion, aosSpacecraft, aosChannel, aosCount, aosSignalling}
 
 -- a field of a width behind a number
 abbrev then : ℕ → ℕ → ℕ → ℕ
@@ -55,3 +56,14 @@ module _ (frame : List ℕ) (o : Octets frame) where
   -- the secondary header flag is the first bit of the data field status
   pub secondary-first : tmSecondary frame ≡ tmStatus frame / 32768
   secondary-first = omega (arith, o 5)
+
+  -- widths 2, 8, 6; 24, 8
+  pub aos-order : number 6 frame
+      ≡ then (then (then (then (aosVersion frame) 256 (aosSpacecraft frame)) 64 (aosChannel frame)) 16777216 (aosCount frame))
+      256 (aosSignalling frame)
+  unfolding number
+  aos-order = omega (arith, o 0, o 1, o 2, o 3, o 4, o 5)
+
+  pub aos-widths : (aosVersion frame < 4) × (aosSpacecraft frame < 256) × (aosChannel frame < 64) × (aosCount frame < 16777216)
+      × (aosSignalling frame < 256)
+  aos-widths = (omega (arith, o 0), omega (arith, o 1), omega arith, omega (arith, o 2, o 3, o 4), o 5)

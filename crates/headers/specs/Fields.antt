@@ -1,4 +1,5 @@
--- Document 01, 'Frames': the fields of the headers of CCSDS 232.0 (TC) and CCSDS 132.0 (TM), each under its name, from the frame's octets.
+-- Document 01, 'Frames', and document 02, request 1: the fields of the headers of CCSDS 232.0 (TC), CCSDS 132.0 (TM) and CCSDS 732.0 (AOS),
+-- each under its name, from the frame's octets.
 -- The first bit of an octet is its most significant, and an octet past the frame's end reads as 0.
 -- Assumes nothing.
 use Prim.Native.Nat.{ℕ, _+_, _*_, _/_, _%_}
@@ -69,3 +70,22 @@ tmStatus frame = octet frame 4 * 256 + octet frame 5
 -- the first bit of the data field status
 abbrev pub tmSecondary : List ℕ → ℕ
 tmSecondary frame = octet frame 4 / 128
+
+-- ---- AOS, octets 0 and 1: version 2 bits, spacecraft 8, virtual channel 6
+
+abbrev pub aosVersion : List ℕ → ℕ
+aosVersion frame = octet frame 0 / 64
+
+abbrev pub aosSpacecraft : List ℕ → ℕ
+aosSpacecraft frame = octet frame 0 % 64 * 4 + octet frame 1 / 64
+
+abbrev pub aosChannel : List ℕ → ℕ
+aosChannel frame = octet frame 1 % 64
+
+-- ---- AOS, octets 2 to 5: frame count 24 bits, signalling 8
+
+abbrev pub aosCount : List ℕ → ℕ
+aosCount frame = octet frame 2 * 65536 + octet frame 3 * 256 + octet frame 4
+
+abbrev pub aosSignalling : List ℕ → ℕ
+aosSignalling frame = octet frame 5

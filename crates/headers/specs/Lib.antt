@@ -1,3 +1,4 @@
+pub mod Aos
 pub mod Fields
 pub mod Telecommand
 pub mod Telemetry

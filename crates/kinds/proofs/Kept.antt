@@ -14,7 +14,7 @@ use lib.Seq.{getD-set-same, getD-set-other, getD-take, length-take-le}
 use Rattle.octets.specs.Lists.{octet}
 use Rattle.headers.specs.Fields.{tcSpacecraft, tcChannel, segmentMap}
 use Rattle.headers.specs.Telecommand.{tcRules, tcLengthOk, tcWithLength}
-use Rattle.kinds.specs.Kinds.{Kind, telecommand, tc, segmentedTc, tm, noKind, kindIs, kindBehind, kindOf, named}
+use Rattle.kinds.specs.Kinds.{Kind, telecommand, tc, segmentedTc, tm, aos, noKind, kindIs, kindBehind, kindOf, named}
 use Rattle.kinds.specs.declared.kinds.Kind as code
 use Rattle.kinds.specs.declared.kinds.Kind.the-variants as kind
 use Rattle.kinds.specs.declared.kinds.Named.{Named}
@@ -147,22 +147,23 @@ segmented-lawful =
     telecommand-lawful 6 63 segmentMap (omega arith)
     (λ n frame rest fits. ap (λ (x : ℕ). x % 64) (same-octet 6 n frame rest (omega arith) fits 5 (omega arith) (omega arith) (omega arith)))
 
--- ---- TM
+-- ---- TM and AOS, whose header is copied
+
+module _ (h : ℕ) (frame rest : List ℕ) (fits : h ≤ length frame) where
+  copied-octet : (j : ℕ) → j < h → octet (take h frame ++ rest) j ≡ octet frame j
+  copied-octet j l =
+      let c = length-take-le h frame fits in
+      List·getD-append (take h frame) rest 0 j (omega arith) ∙ getD-take h frame j 0 l
 
 tm-lawful : Lawful tm
 tm-lawful = record { long = λ n s. refl; other = λ n s j p q. refl; sameHeader = λ n frame rest fits. refl; keeps = go }
   where
-    at : (frame rest : List ℕ) → 6 ≤ length frame → (j : ℕ) → j < 6 → octet (take 6 frame ++ rest) j ≡ octet frame j
-    at frame rest fits j l =
-        let c = length-take-le 6 frame fits in
-        List·getD-append (take 6 frame) rest 0 j (omega arith) ∙ getD-take 6 frame j 0 l
-
     go : (n : ℕ) (frame rest : List ℕ) → tm .rules frame ≡ true → 6 ≤ length frame
         → length (built tm n frame rest) ≡ n → 0 < n → n ≤ 2048 → Kept tm frame (built tm n frame rest)
     go n frame rest ok fits count some small =
-        let e0 = at frame rest fits 0 (omega arith) in
-        let e1 = at frame rest fits 1 (omega arith) in
-        let e4 = at frame rest fits 4 (omega arith) in
+        let e0 = copied-octet 6 frame rest fits 0 (omega arith) in
+        let e1 = copied-octet 6 frame rest fits 1 (omega arith) in
+        let e4 = copied-octet 6 frame rest fits 4 (omega arith) in
         record {
           rules = ap₂ (λ (x y : ℕ). eqb (x / 64) 0 && eqb (y / 128) 0) e0 e4 ∙ ok;
           lengthOk = refl;
@@ -170,6 +171,24 @@ tm-lawful = record { long = λ n s. refl; other = λ n s j p q. refl; sameHeader
           trailer = ap (λ (x : ℕ). 4 * (x % 2)) e1;
           spacecraft = ap₂ (λ (x y : ℕ). x % 64 * 16 + y / 16) e0 e1;
           channel = ap (λ (x : ℕ). x / 2 % 8) e1;
+          map = refl;
+        }
+
+aos-lawful : Lawful aos
+aos-lawful = record { long = λ n s. refl; other = λ n s j p q. refl; sameHeader = λ n frame rest fits. refl; keeps = go }
+  where
+    go : (n : ℕ) (frame rest : List ℕ) → aos .rules frame ≡ true → 6 ≤ length frame
+        → length (built aos n frame rest) ≡ n → 0 < n → n ≤ 2048 → Kept aos frame (built aos n frame rest)
+    go n frame rest ok fits count some small =
+        let e0 = copied-octet 6 frame rest fits 0 (omega arith) in
+        let e1 = copied-octet 6 frame rest fits 1 (omega arith) in
+        record {
+          rules = ap (λ (x : ℕ). eqb (x / 64) 1) e0 ∙ ok;
+          lengthOk = refl;
+          header = refl;
+          trailer = refl;
+          spacecraft = ap₂ (λ (x y : ℕ). x % 64 * 4 + y / 64) e0 e1;
+          channel = ap (λ (x : ℕ). x % 64) e1;
           map = refl;
         }
 
@@ -188,6 +207,7 @@ lawful-named : (a : Named) → Lawful (kindBehind a)
 lawful-named (answer.Kind kind.Tc) = tc-lawful
 lawful-named (answer.Kind kind.SegmentedTc) = segmented-lawful
 lawful-named (answer.Kind kind.Tm) = tm-lawful
+lawful-named (answer.Kind kind.Aos) = aos-lawful
 lawful-named answer.Nothing = none-lawful
 
 pub lawful-kind : (k : code.Kind) → Lawful (kindIs k)

@@ -1,11 +1,12 @@
--- Document 01, 'Frames' and 'The image': the frame kinds. Everything that the paper says of one kind stands in its record, and nothing else
--- names a kind's numbers.
+-- Document 01, 'Frames' and 'The image', and document 02, request 1: the frame kinds. Everything that the papers say of one kind stands in
+-- its record, and nothing else names a kind's numbers.
 -- Assumes nothing.
 use Prim.Native.Nat.{ℕ}
 use mathlib.Core.Bool.{Bool, true, false, cond}
 use mathlib.Core.List.{List}
 use lib.Dec.{eqb, ltb}
-use Rattle.headers.specs.Fields.{tcSpacecraft, tcChannel, segmentMap, tmSpacecraft, tmChannel}
+use Rattle.headers.specs.Aos.{aosRules}
+use Rattle.headers.specs.Fields.{tcSpacecraft, tcChannel, segmentMap, tmSpacecraft, tmChannel, aosSpacecraft, aosChannel}
 use Rattle.headers.specs.Telecommand.{tcRules, tcLengthOk, tcHoldsLength, tcWithLength}
 use Rattle.headers.specs.Telemetry.{tmRules, tmTrailer}
 use Rattle.kinds.specs.declared.kinds.Kind as code
@@ -86,6 +87,27 @@ tm =
       mostMap = 0;
     }
 
+-- ---- AOS: there is no length field, and nothing behind the MAC
+
+abbrev pub aos : Kind
+aos =
+    record {
+      rules = aosRules;
+      header = λ frame. 6;
+      trailer = λ frame. 0;
+      largest = 2048;
+      underMask = 6;
+      lengthOk = λ frame. true;
+      holdsLength = λ s. false;
+      withLength = λ n s. s;
+      spacecraft = aosSpacecraft;
+      channel = aosChannel;
+      map = λ frame. 0;
+      mostSpacecraft = 255;
+      mostChannel = 63;
+      mostMap = 0;
+    }
+
 -- ---- no kind: no frame obeys it
 
 abbrev pub noKind : Kind
@@ -123,13 +145,15 @@ abbrev pub kindIs : code.Kind → Kind
 kindIs kind.Tc = tc
 kindIs kind.SegmentedTc = segmentedTc
 kindIs kind.Tm = tm
+kindIs kind.Aos = aos
 
--- 1 TC without segment header, 2 TC with it, 3 TM; another number names none
+-- 1 TC without segment header, 2 TC with it, 3 TM, 4 AOS; another number names none
 unfoldable pub named : ℕ → Named
 named number =
     cond (eqb number 1) (answer.Kind kind.Tc)
     (cond (eqb number 2) (answer.Kind kind.SegmentedTc)
-    (cond (eqb number 3) (answer.Kind kind.Tm) answer.Nothing))
+    (cond (eqb number 3) (answer.Kind kind.Tm)
+    (cond (eqb number 4) (answer.Kind kind.Aos) answer.Nothing)))
 
 abbrev pub kindBehind : Named → Kind
 kindBehind (answer.Kind k) = kindIs k

@@ -1,4 +1,5 @@
-// Document 01, 'Frames' and 'The image': one enum of kinds, which answers for whichever kind the caller named.
+// Document 01, 'Frames' and 'The image', and document 02, request 1: one enum of kinds, which answers for whichever kind the caller named.
+use headers::Aos;
 use headers::Segment;
 use headers::Tc;
 use headers::Tm;
@@ -12,6 +13,8 @@ const SEGMENTED_HEADER: usize = TC_HEADER + 1;
 
 const TM_HEADER: usize = 6;
 
+const AOS_HEADER: usize = 6;
+
 // The most that a segment header holds as MAP.
 const MOST_MAP: u8 = 63;
 
@@ -19,6 +22,7 @@ pub enum Kind {
     Tc,
     SegmentedTc,
     Tm,
+    Aos,
 }
 
 pub enum Named {
@@ -50,6 +54,7 @@ pub fn kind_of(number: u8) -> Named
         1 => Named::Kind(Kind::Tc),
         2 => Named::Kind(Kind::SegmentedTc),
         3 => Named::Kind(Kind::Tm),
+        4 => Named::Kind(Kind::Aos),
         _ => Named::Nothing,
     }
 }
@@ -63,6 +68,7 @@ impl Kind {
             Kind::Tc => TC_HEADER,
             Kind::SegmentedTc => SEGMENTED_HEADER,
             Kind::Tm => TM_HEADER,
+            Kind::Aos => AOS_HEADER,
         }
     }
 
@@ -74,6 +80,7 @@ impl Kind {
             Kind::Tc => 0,
             Kind::SegmentedTc => 0,
             Kind::Tm => Tm::trailer_length(frame),
+            Kind::Aos => 0,
         }
     }
 
@@ -85,6 +92,7 @@ impl Kind {
             Kind::Tc => TC_HEADER,
             Kind::SegmentedTc => SEGMENTED_HEADER,
             Kind::Tm => TM_HEADER,
+            Kind::Aos => AOS_HEADER,
         }
     }
 
@@ -95,6 +103,7 @@ impl Kind {
             Kind::Tc => 1024,
             Kind::SegmentedTc => 1024,
             Kind::Tm => 2048,
+            Kind::Aos => 2048,
         }
     }
 
@@ -106,6 +115,7 @@ impl Kind {
             Kind::Tc => Tc::keeps_rules(frame),
             Kind::SegmentedTc => Tc::keeps_rules(frame),
             Kind::Tm => Tm::keeps_rules(frame),
+            Kind::Aos => Aos::keeps_rules(frame),
         }
     }
 
@@ -117,6 +127,7 @@ impl Kind {
             Kind::Tc => Tc::counts_length(frame),
             Kind::SegmentedTc => Tc::counts_length(frame),
             Kind::Tm => true,
+            Kind::Aos => true,
         }
     }
 
@@ -128,6 +139,7 @@ impl Kind {
             Kind::Tc => rewritten_if(Tc::rewrite_length(frame, n)),
             Kind::SegmentedTc => rewritten_if(Tc::rewrite_length(frame, n)),
             Kind::Tm => Rewritten::Nothing,
+            Kind::Aos => Rewritten::Nothing,
         }
     }
 
@@ -138,6 +150,7 @@ impl Kind {
             Kind::Tc => Tc::spacecraft(frame),
             Kind::SegmentedTc => Tc::spacecraft(frame),
             Kind::Tm => Tm::spacecraft(frame),
+            Kind::Aos => Aos::spacecraft(frame),
         }
     }
 
@@ -148,6 +161,7 @@ impl Kind {
             Kind::Tc => Tc::channel(frame),
             Kind::SegmentedTc => Tc::channel(frame),
             Kind::Tm => Tm::channel(frame),
+            Kind::Aos => Aos::channel(frame),
         }
     }
 
@@ -159,6 +173,7 @@ impl Kind {
             Kind::Tc => 0,
             Kind::SegmentedTc => Segment::map(frame),
             Kind::Tm => 0,
+            Kind::Aos => 0,
         }
     }
 
@@ -170,6 +185,7 @@ impl Kind {
             Kind::Tc => 1023,
             Kind::SegmentedTc => 1023,
             Kind::Tm => 1023,
+            Kind::Aos => 255,
         }
     }
 
@@ -180,6 +196,7 @@ impl Kind {
             Kind::Tc => 63,
             Kind::SegmentedTc => 63,
             Kind::Tm => 7,
+            Kind::Aos => 63,
         }
     }
 
@@ -190,6 +207,7 @@ impl Kind {
             Kind::Tc => 0,
             Kind::SegmentedTc => MOST_MAP,
             Kind::Tm => 0,
+            Kind::Aos => 0,
         }
     }
 }

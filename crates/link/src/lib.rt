@@ -1,4 +1,4 @@
-// Document 01: the link security module. It secures and checks TC and TM transfer frames under the associations of an image. Each call is
+// Document 01: the link security module. It secures and checks TC, TM and AOS transfer frames under the associations of an image. Each call is
 // what its definition of specs/Calls says: the answer, the numbers that come back, and every octet of the image and the output at its return.
 // The caller keeps the image in memory that outlives a failure of power, and hands the numbers of one call to the next.
 mod admission;

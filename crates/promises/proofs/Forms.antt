@@ -14,13 +14,13 @@ use Rattle.octets.specs.Lists.{octet}
 use Rattle.octets.proofs.Alls.{and-left, and-right}
 use Rattle.octets.proofs.Rules.{length-tab, octet-tab}
 use Rattle.headers.specs.Telecommand.{tcRules, tcLengthOk, tcWithLength}
-use Rattle.kinds.specs.Kinds.{Kind, telecommand, tm, noKind, kindBehind, kindOf, named}
+use Rattle.kinds.specs.Kinds.{Kind, telecommand, tm, aos, noKind, kindBehind, kindOf, named}
 use Rattle.frame.specs.Masked.{masked}
 use Rattle.kinds.specs.declared.kinds.Kind.the-variants as kind
 use Rattle.kinds.specs.declared.kinds.Named.the-variants as answer
 use Rattle.frame.proofs.Masking.{octet-reached, length-masked}
 use Rattle.promises.specs.Forms.{Form, TcHeader, tcSecuredOctet, tcForm}
-use Rattle.promises.specs.Forms.{plainTcForm, segmentedTcForm, tmForm, noForm, formOf, underMask}
+use Rattle.promises.specs.Forms.{plainTcForm, segmentedTcForm, tmForm, aosForm, noForm, formOf, underMask}
 
 pub record Describes (f : Form) (k : Kind) : Type 0 where
   -- the rules on the header, both ways
@@ -113,7 +113,7 @@ tc-describes h most map five six =
       short = λ frame. six;
     }
 
--- ---- TM, and no kind
+-- ---- TM, AOS, and no kind
 
 tm-describes : Describes tmForm tm
 tm-describes =
@@ -124,6 +124,24 @@ tm-describes =
             version = eqb-true (octet frame 0 / 64) 0 (search and-left);
             secondary = eqb-true (octet frame 4 / 128) 0 (search and-right);
           };
+      header = λ frame. refl;
+      trailer = λ frame. refl;
+      largest = refl;
+      copied = λ n clear j small fits below. getD-take 6 clear j 0 below;
+      spacecraft = λ frame. refl;
+      channel = λ frame. refl;
+      map = λ frame. refl;
+      mostSpacecraft = refl;
+      mostChannel = refl;
+      mostMap = refl;
+      short = λ frame. omega arith;
+    }
+
+aos-describes : Describes aosForm aos
+aos-describes =
+    record {
+      tested = λ frame t. (eq-eqb _ 1 (t .version), refl);
+      kept = λ frame rules counted. record { version = eqb-true (octet frame 0 / 64) 1 rules };
       header = λ frame. refl;
       trailer = λ frame. refl;
       largest = refl;
@@ -159,15 +177,17 @@ none-describes =
 
 pub described : (number : ℕ) → Describes (formOf number) (kindOf number)
 unfolding formOf named
-described number = by-test (eqb number 1) (eqb number 2) (eqb number 3)
+described number = by-test (eqb number 1) (eqb number 2) (eqb number 3) (eqb number 4)
   where
-    by-test : (a b c : Bool)
-        → Describes (cond a plainTcForm (cond b segmentedTcForm (cond c tmForm noForm)))
-        (kindBehind (cond a (answer.Kind kind.Tc) (cond b (answer.Kind kind.SegmentedTc) (cond c (answer.Kind kind.Tm) answer.Nothing))))
-    by-test true b c = tc-describes 5 0 (λ frame. 0) (omega arith) (omega arith)
-    by-test false true c = tc-describes 6 63 (λ frame. octet frame 5 % 64) (omega arith) (omega arith)
-    by-test false false true = tm-describes
-    by-test false false false = none-describes
+    by-test : (a b c d : Bool)
+        → Describes (cond a plainTcForm (cond b segmentedTcForm (cond c tmForm (cond d aosForm noForm))))
+        (kindBehind (cond a (answer.Kind kind.Tc) (cond b (answer.Kind kind.SegmentedTc)
+        (cond c (answer.Kind kind.Tm) (cond d (answer.Kind kind.Aos) answer.Nothing)))))
+    by-test true b c d = tc-describes 5 0 (λ frame. 0) (omega arith) (omega arith)
+    by-test false true c d = tc-describes 6 63 (λ frame. octet frame 5 % 64) (omega arith) (omega arith)
+    by-test false false true d = tm-describes
+    by-test false false false true = aos-describes
+    by-test false false false false = none-describes
 
 -- ---- the mask, where it reaches over the header
 

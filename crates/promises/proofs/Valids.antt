@@ -62,9 +62,10 @@ has-map zero = refl
 has-map (suc zero) = refl
 has-map (suc (suc zero)) = refl
 has-map (suc (suc (suc zero))) = refl
-has-map (suc (suc (suc (suc n)))) =
-    let other : ℕ = suc (suc (suc (suc n))) in
-    simp (ne-eqb other 1 (omega arith), ne-eqb other 2 (omega arith), ne-eqb other 3 (omega arith))
+has-map (suc (suc (suc (suc zero)))) = refl
+has-map (suc (suc (suc (suc (suc n))))) =
+    let other : ℕ = suc (suc (suc (suc (suc n)))) in
+    simp (ne-eqb other 1 (omega arith), ne-eqb other 2 (omega arith), ne-eqb other 3 (omega arith), ne-eqb other 4 (omega arith))
 
 -- ---- a valid image obeys the rules
 
@@ -115,7 +116,7 @@ implies : (a b : Bool) → (not a || b) ≡ true → a ≡ true → b ≡ true
 implies true b h e = h
 implies false b h e = let z : _≡_ {A = ℕ} 0 1 = cc in absurd (omega arith)
 
-kind-ok : (version number : ℕ) (body : List ℕ) → (1 ≤ number) × (number ≤ 3) → spacecraftOf body ≤ kindOf number .mostSpacecraft
+kind-ok : (version number : ℕ) (body : List ℕ) → (1 ≤ number) × (number ≤ 4) → spacecraftOf body ≤ kindOf number .mostSpacecraft
     → channelOf body ≤ kindOf number .mostChannel → mapOf body ≤ kindOf number .mostMap
     → (number ≡ 1 → octet (maskOf body) 5 ≡ 0) → kindOk version (named number) body ≡ true
 unfolding named
@@ -126,7 +127,9 @@ kind-ok version (suc (suc zero)) body h s c m k =
     ap₂ _&&_ (ap₂ _&&_ (ap₂ _&&_ (le-leb _ _ s) (le-leb _ _ c)) (le-leb _ _ m)) refl
 kind-ok version (suc (suc (suc zero))) body h s c m k =
     ap₂ _&&_ (ap₂ _&&_ (ap₂ _&&_ (le-leb _ _ s) (le-leb _ _ c)) (le-leb _ _ m)) refl
-kind-ok version (suc (suc (suc (suc n)))) body h s c m k = absurd (omega arith)
+kind-ok version (suc (suc (suc (suc zero)))) body h s c m k =
+    ap₂ _&&_ (ap₂ _&&_ (ap₂ _&&_ (le-leb _ _ s) (le-leb _ _ c)) (le-leb _ _ m)) refl
+kind-ok version (suc (suc (suc (suc (suc n))))) body h s c m k = absurd (omega arith)
 
 module _ (image : List ℕ) (octets : Octets image) (rules : ImageRules image) where
   module _ (i : ℕ) (b : BodyRules image i) where

@@ -23,7 +23,7 @@ use Rattle.promises.specs.Cases.{allTrue, imageOf, oneNumber, frameC, fr
 use Rattle.promises.specs.Frames.{dataInClear, spiOn, numberOn}
 use Rattle.promises.specs.Isolation.{Standing, both, neither, SameAnswer}
 use Rattle.promises.specs.RoundTrip.{Released}
-use Rattle.promises.specs.Runs.{load, send, check, sendCut, after, trace, shows, restart, sent, released, shownOf}
+use Rattle.promises.specs.Runs.{Shown, load, send, check, sendCut, after, trace, shows, restart, sent, released, shownOf}
 use Rattle.promises.proofs.Answers.{nobody}
 use Rattle.promises.proofs.Computing.{everything}
 use Rattle.promises.proofs.Isolation.{isolation}
@@ -86,7 +86,7 @@ module _ (service : ℕ) (said : Said) (frame : List ℕ) where
       (rw n (record { above = omega arith; near = omega arith; most = omega arith }))
       (leb-true (length (dataInClear said frame)) (length room) (search (and-left, and-right)))
 
--- clear frames of spacecraft 27 and channel 5: TC with a segment header, TM, and TM with an operational control field
+-- clear frames of spacecraft 27 and channel 5: TC with a segment header, TM, TM with an operational control field, and AOS
 abbrev segmentedFrame : List ℕ
 segmentedFrame = 0x00 ∷ 0x1B ∷ 0x14 ∷ 0x06 ∷ 0x00 ∷ 0xC0 ∷ 0xAA ∷ []
 
@@ -95,6 +95,9 @@ tmFrame = 0x01 ∷ 0xBA ∷ 0x00 ∷ 0x00 ∷ 0x00 ∷ 0x00 ∷ 0xAA ∷ []
 
 abbrev ocfFrame : List ℕ
 ocfFrame = 0x01 ∷ 0xBB ∷ 0x00 ∷ 0x00 ∷ 0x00 ∷ 0x00 ∷ 0xAA ∷ 0x01 ∷ 0x02 ∷ 0x03 ∷ 0x04 ∷ []
+
+abbrev aosFrame : List ℕ
+aosFrame = 0x46 ∷ 0xC5 ∷ 0x00 ∷ 0x00 ∷ 0x00 ∷ 0x00 ∷ 0xAA ∷ []
 
 pub conditions-met :
     allTrue
@@ -106,6 +109,8 @@ pub conditions-met :
     ∷ meets 2 (saying 3) tmFrame
     ∷ meets 1 (saying 3) ocfFrame
     ∷ meets 2 (saying 3) ocfFrame
+    ∷ meets 1 (saying 4) aosFrame
+    ∷ meets 2 (saying 4) aosFrame
     ∷ [])
     ≡ true
 unfolding everything
@@ -118,7 +123,7 @@ pub answers-given :
     (eqb (loaded [] [] .answer) 1
     ∷ eqb (frameSent [] 63 .answer) 1
     ∷ eqb (frameSent imageB 64 .answer) 2
-    ∷ eqb (secured imageB (oneNumber 63) (saying 4) 9 frameC room .answer) 3
+    ∷ eqb (secured imageB (oneNumber 63) (saying 5) 9 frameC room .answer) 3
     ∷ eqb (secured imageB (oneNumber 63) (saying 1) 8 frameC room .answer) 4
     ∷ eqb (secured imageB (oneNumber 63) (saying 1) 9 (clearTc 1003) room .answer) 11
     ∷ eqb (secured imageB (oneNumber 63) (saying 1) 9 frameC [] .answer) 6
@@ -135,26 +140,44 @@ answers-given = refl
 
 -- ---- runs
 
--- sent 64 and 65; a load; sent 128; a load; power fails after the one store of a sending, and a load; then 256
-pub run-sends :
-    shownOf 0 imageB []
-    (send (saying 1) 9 frameC room
-    ∷ send (saying 1) 9 frameC room
+-- a run of sendings, of which the fourth is cut after its one store
+abbrev sendings : ℕ → Said → List ℕ → List Shown
+sendings service said frame =
+    shownOf 0 (imageOf service (said .kind) 1 100 0) []
+    (send said 9 frame room
+    ∷ send said 9 frame room
     ∷ load []
-    ∷ send (saying 1) 9 frameC room
+    ∷ send said 9 frame room
     ∷ load []
-    ∷ sendCut (saying 1) 9 frameC room 1 []
-    ∷ send (saying 1) 9 frameC room
+    ∷ sendCut said 9 frame room 1 []
+    ∷ send said 9 frame room
     ∷ [])
-    ≡ restart ∷ sent 64 ∷ sent 65 ∷ restart ∷ sent 128 ∷ restart ∷ restart ∷ sent 256 ∷ []
+
+-- what it shows: sent 64 and 65; a load; sent 128; a load; the cut, and a load; then 256
+abbrev sendingsShown : List Shown
+sendingsShown = restart ∷ sent 64 ∷ sent 65 ∷ restart ∷ sent 128 ∷ restart ∷ restart ∷ sent 256 ∷ []
+
+pub run-sends :
+    (sendings 1 (saying 1) frameC ≡ sendingsShown)
+    × (sendings 1 (saying 4) aosFrame ≡ sendingsShown)
+    × (sendings 2 (saying 4) aosFrame ≡ sendingsShown)
 unfolding everything trace shows after
-run-sends = refl
+run-sends = (refl, refl, refl)
 
 -- the frame of the first sending, released at the other end
+abbrev releases : ℕ → Said → List ℕ → List Shown
+releases service said frame = shownOf 0 (there service said frame) [] (check said (out service said frame) room ∷ [])
+
 pub run-releases :
-    shownOf 0 (receiver 100 0) [] (check (saying 1) (handed (frameSent imageB 63)) room ∷ []) ≡ restart ∷ released 64 ∷ []
+    (releases 1 (saying 1) frameC ≡ restart ∷ released 64 ∷ [])
+    × (releases 1 (saying 4) aosFrame ≡ restart ∷ released 64 ∷ [])
+    × (releases 2 (saying 4) aosFrame ≡ restart ∷ released 64 ∷ [])
 unfolding everything trace shows after
-run-releases = rw (released-there 1 (saying 1) frameC refl .answer)
+run-releases = (
+  rw (released-there 1 (saying 1) frameC refl .answer),
+  rw (released-there 1 (saying 4) aosFrame refl .answer),
+  rw (released-there 2 (saying 4) aosFrame refl .answer),
+)
 
 -- ---- two projects' images
 

@@ -1,6 +1,7 @@
--- Document 01, 'Frames' and 'The image': the kinds of frame, in the octets of a frame, to be laid beside those sections. The promises name a
--- kind in these words and not in those of the definitions that they are about, so that a definition which skips a rule, reads another bit
--- or copies less of a header breaks a promise. A kind is one record, and what is promised is stated once over any.
+-- Document 01, 'Frames' and 'The image', and document 02, request 1: the kinds of frame, in the octets of a frame, to be laid beside those
+-- sections. The promises name a kind in these words and not in those of the definitions that they are about, so that a definition which
+-- skips a rule, reads another bit or copies less of a header breaks a promise. A kind is one record, and what is promised is stated once
+-- over any.
 -- Octets are numbered from 0, and the first bit of an octet is its most significant: octet / 64 are its first two bits, octet % 4 its last.
 -- Assumes nothing.
 use Prim.Native.Nat.{ℕ, _+_, _-_, _*_, _/_, _%_}
@@ -75,6 +76,9 @@ pub record TmHeader (tm : List ℕ) : Type 0 where
   pub secondary : octet tm 4 / 128 ≡ 0
 
 -- there is no length field, so every octet is copied
+abbrev pub copiedOctet : ℕ → List ℕ → ℕ → ℕ
+copiedOctet n clear j = octet clear j
+
 abbrev pub tmForm : Form
 tmForm =
     record {
@@ -82,12 +86,34 @@ tmForm =
       header = λ frame. 6;
       trailer = λ frame. 4 * (octet frame 1 % 2);
       largest = 2048;
-      securedOctet = λ n clear j. octet clear j;
+      securedOctet = copiedOctet;
       spacecraft = λ frame. octet frame 0 % 64 * 16 + octet frame 1 / 16;
       channel = λ frame. octet frame 1 / 2 % 8;
       map = λ frame. 0;
       mostSpacecraft = 1023;
       mostChannel = 7;
+      mostMap = 0;
+    }
+
+-- ---- AOS, 6 octets: version 2 bits (01), spacecraft 8, virtual channel 6, frame count 24, signalling 8; the last two may hold anything
+
+pub record AosHeader (aos : List ℕ) : Type 0 where
+  pub version : octet aos 0 / 64 ≡ 1
+
+-- there is no length field here either, and no operational control field
+abbrev pub aosForm : Form
+aosForm =
+    record {
+      Header = AosHeader;
+      header = λ frame. 6;
+      trailer = λ frame. 0;
+      largest = 2048;
+      securedOctet = copiedOctet;
+      spacecraft = λ frame. octet frame 0 % 64 * 4 + octet frame 1 / 64;
+      channel = λ frame. octet frame 1 % 64;
+      map = λ frame. 0;
+      mostSpacecraft = 255;
+      mostChannel = 63;
       mostMap = 0;
     }
 
@@ -109,11 +135,11 @@ noForm =
       mostMap = 0;
     }
 
--- ---- kinds: 1 TC without segment header, 2 TC with it, 3 TM; another number names none
+-- ---- kinds: 1 TC without segment header, 2 TC with it, 3 TM, 4 AOS; another number names none
 
 unfoldable pub formOf : ℕ → Form
 formOf kind =
-    cond (eqb kind 1) plainTcForm (cond (eqb kind 2) segmentedTcForm (cond (eqb kind 3) tmForm noForm))
+    cond (eqb kind 1) plainTcForm (cond (eqb kind 2) segmentedTcForm (cond (eqb kind 3) tmForm (cond (eqb kind 4) aosForm noForm)))
 
 abbrev pub formSaid : Said → Form
 formSaid said = formOf (said .kind)

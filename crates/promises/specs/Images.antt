@@ -74,7 +74,7 @@ coded m = m ⊕ m / 2
 
 pub record BodyRules (image : List ℕ) (i : ℕ) : Type 0 where
   pub service : (1 ≤ serviceAt image i) × (serviceAt image i ≤ 2)
-  pub kind : (1 ≤ kindAt image i) × (kindAt image i ≤ 3)
+  pub kind : (1 ≤ kindAt image i) × (kindAt image i ≤ 4)
   pub direction : (1 ≤ directionAt image i) × (directionAt image i ≤ 2)
   pub state : stateAt image i ≤ 2
   pub spacecraft : spacecraftAt image i ≤ formOf (kindAt image i) .mostSpacecraft

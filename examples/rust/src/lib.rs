@@ -18,6 +18,7 @@ pub enum Kind {
     Tc = 1,
     TcSegment = 2,
     Tm = 3,
+    Aos = 4,
 }
 
 /// Why a call was refused. It then changed nothing.

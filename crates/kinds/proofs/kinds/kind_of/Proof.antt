@@ -21,9 +21,15 @@ returns-3 c = let e : c .before .args .number ≡ 3 = omega arith in ap named (s
 
 returns-4 : tie.Need-returns-4
 unfolding named
-returns-4 c = let n = c .before .args .number in simp (ne-eqb n 1 (λ e. omega arith), ne-eqb n 2 (λ e. omega arith), ne-eqb n 3 (λ e. omega arith))
+returns-4 c = let e : c .before .args .number ≡ 4 = omega arith in ap named (sym e)
+
+returns-5 : tie.Need-returns-5
+unfolding named
+returns-5 c =
+    let n = c .before .args .number in
+    simp (ne-eqb n 1 (λ e. omega arith), ne-eqb n 2 (λ e. omega arith), ne-eqb n 3 (λ e. omega arith), ne-eqb n 4 (λ e. omega arith))
 
 pub kind-of-spec : {M : Type 1} → statement M
 kind-of-spec =
     tie.close
-    (tie.spec returns returns-2 returns-3 returns-4)
+    (tie.spec returns returns-2 returns-3 returns-4 returns-5)

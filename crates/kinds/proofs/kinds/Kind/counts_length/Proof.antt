@@ -14,4 +14,4 @@ pub counts-length-spec : {M : Type 1} → statement M
 counts-length-spec =
     tie.close
     (tie.spec (λ c. search needs) (λ c κs. search needs) (λ c. search needs) (λ c κs. search needs)
-    (λ c. search needs) returns returns-2 (λ c. search needs))
+    (λ c. search needs) (λ c. search needs) returns returns-2 (λ c. search needs) (λ c. search needs))

@@ -11,4 +11,4 @@ pub map-spec : {M : Type 1} → statement M
 map-spec =
     tie.close
     (tie.spec (λ c. search needs) (λ c. search needs) (λ c κs. search needs) (λ c. search needs) (λ c. search needs)
-    returns-2 (λ c. search needs))
+    (λ c. search needs) returns-2 (λ c. search needs) (λ c. search needs))

@@ -11,4 +11,4 @@ pub trailer-length-spec : {M : Type 1} → statement M
 trailer-length-spec =
     tie.close
     (tie.spec (λ c. search needs) (λ c. search needs) (λ c. search needs) (λ c κs. search needs) (λ c. search needs)
-    (λ c. search needs) returns-3)
+    (λ c. search needs) (λ c. search needs) returns-3 (λ c. search needs))
