@@ -7,9 +7,11 @@
  * may point anywhere. Ranges lent to one call must not overlap. A call reads and writes nothing outside them. It ends for every input, and
  * has no other condition to meet: whatever the ranges hold, an answer comes back.
  *
- * The image is the table of associations: octet 0 is the version, 1, octet 1 the count k, 0 to 32, then k entries of 4 octets (SPI,
+ * The image is the table of associations: octet 0 is the version, 1 or 2, octet 1 the count k, 0 to 32, then k entries of 4 octets (SPI,
  * position of the body), then k bodies of 52 octets; all in all 2 + 56 k octets, numbers big-endian. Keep it where it outlives a loss of
  * power: a call stores into it one octet at a time, and what a loss leaves after any of these stores is an image to load again.
+ * Octet 6 of a body is the virtual channel. In version 2, for telemetry, it is a set of channels, the lowest bit for channel 0, and not 0: one
+ * association, with one number, for all of them.
  *
  * The managed numbers are uint32_t[32], element i for entry i: the last number sent or accepted. They are made by xistalvo_load and
  * changed by xistalvo_secure and xistalvo_check. They need not outlive a loss of power; load again after it. numbers_length counts
@@ -36,6 +38,7 @@ extern "C" {
 
 /* The image: its version, the most associations, the octets that k of them take, and the most octets. xistalvo_image.h lays one out. */
 #define XISTALVO_IMAGE_VERSION 1
+#define XISTALVO_IMAGE_VERSION_SETS 2 /* as version 1, but TM associations serve a set of virtual channels */
 #define XISTALVO_MOST_ASSOCIATIONS 32
 #define XISTALVO_IMAGE_LENGTH(k) (2 + 56 * (k))
 #define XISTALVO_LARGEST_IMAGE 1794
@@ -141,7 +144,7 @@ uint64_t xistalvo_check(uint8_t *image, size_t image_length, uint32_t *numbers, 
  *
  * Makes, of the octet stores that raise the mark of this entry one at a time to number/64 rounded down, the first as many as 'stores'
  * says, or all where there are fewer, and returns how many it made. Where the mark is already there or higher there are none.
- * An image whose version is not 1, whose count is above 32 or whose length is not 2 + 56 k, and an entry that is not below the count k: none
+ * An image whose version is not 1 or 2, whose count is above 32 or whose length is not 2 + 56 k, and an entry that is not below the count k: none
  * is made and 0 returned. No other rule of the image is tested; the mark is where the layout puts it, in the last 4 octets of the body at
  * 2 + 4 k + 52 entry, whatever the contents say of its position.
  * Only those octets of the image are written. Securing and checking make all their stores before they write the output. */

@@ -19,7 +19,7 @@ struct xistalvo_association {
     uint8_t direction;
     uint8_t state;
     uint16_t spacecraft; /* 0 to 1,023, for AOS 0 to 255 */
-    uint8_t channel;     /* 0 to 63, for TM 0 to 7 */
+    uint8_t channel;     /* 0 to 63, for TM 0 to 7; for TM in version 2 a set, 1 to 255: bit c for channel c */
     uint8_t map;         /* 0 to 63 for TC with segment header, else 0 */
     uint16_t window;     /* 1 to 1,024 */
     uint8_t mask[6];     /* a bit 1 puts the header's bit under the MAC; for TC without segment header the last octet is 0 */
@@ -27,10 +27,11 @@ struct xistalvo_association {
     uint32_t mark; /* 0 in a new image; below 67,108,864 */
 };
 
-/* The rule that an association breaks by itself, in words, or a null pointer where it breaks none. */
-static inline const char *xistalvo_association_fault(const struct xistalvo_association *association)
+/* The rule that an association breaks by itself in an image of that version, in words, or a null pointer where it breaks none. */
+static inline const char *xistalvo_association_fault(unsigned int version, const struct xistalvo_association *association)
 {
     unsigned int kind = association->kind;
+    int has_set = version == XISTALVO_IMAGE_VERSION_SETS && kind == XISTALVO_TM;
     if (association->spi == 0 || association->spi == 65535) {
         return "an SPI is 1 to 65,534";
     }
@@ -49,7 +50,10 @@ static inline const char *xistalvo_association_fault(const struct xistalvo_assoc
     if (association->spacecraft > (kind == XISTALVO_AOS ? 255 : 1023)) {
         return "a spacecraft is 0 to 1,023, and for AOS 0 to 255";
     }
-    if (association->channel > (kind == XISTALVO_TM ? 7 : 63)) {
+    if (has_set && association->channel == 0) {
+        return "a set of virtual channels is not empty";
+    }
+    if (!has_set && association->channel > (kind == XISTALVO_TM ? 7 : 63)) {
         return "a virtual channel is 0 to 63, and for TM 0 to 7";
     }
     if (association->map > (kind == XISTALVO_TC_SEGMENT ? 63 : 0)) {
@@ -68,13 +72,16 @@ static inline const char *xistalvo_association_fault(const struct xistalvo_assoc
 }
 
 /* The rule that a table of associations breaks, or a null pointer; and, where an association breaks one, which: *at becomes its index. */
-static inline const char *xistalvo_image_fault(const struct xistalvo_association *associations, size_t count, size_t *at)
+static inline const char *xistalvo_image_fault(unsigned int version, const struct xistalvo_association *associations, size_t count, size_t *at)
 {
+    if (version != XISTALVO_IMAGE_VERSION && version != XISTALVO_IMAGE_VERSION_SETS) {
+        return "a version is 1 or 2";
+    }
     if (count > XISTALVO_MOST_ASSOCIATIONS) {
         return "there are at most 32 associations";
     }
     for (*at = 0; *at < count; ++*at) {
-        const char *fault = xistalvo_association_fault(&associations[*at]);
+        const char *fault = xistalvo_association_fault(version, &associations[*at]);
         if (fault != NULL) {
             return fault;
         }
@@ -113,15 +120,16 @@ static inline void xistalvo_put_body(uint8_t *body, const struct xistalvo_associ
     xistalvo_put_two(body + XISTALVO_IN_MARK + 2, (unsigned int)(code & 0xFFFFu));
 }
 
-/* Lays out the image of a table of associations and gives its length, XISTALVO_IMAGE_LENGTH(count). Where the table breaks a rule or the
+/* Lays out the image of that version of a table of associations and gives its length, XISTALVO_IMAGE_LENGTH(count). Where the table breaks a rule or the
  * buffer is shorter than that, it gives 0 and writes nothing. */
-static inline size_t xistalvo_make_image(const struct xistalvo_association *associations, size_t count, uint8_t *image, size_t image_room)
+static inline size_t xistalvo_make_image(unsigned int version, const struct xistalvo_association *associations, size_t count, uint8_t *image,
+                                         size_t image_room)
 {
     size_t i;
-    if (xistalvo_image_fault(associations, count, &i) != NULL || image_room < XISTALVO_IMAGE_LENGTH(count)) {
+    if (xistalvo_image_fault(version, associations, count, &i) != NULL || image_room < XISTALVO_IMAGE_LENGTH(count)) {
         return 0;
     }
-    image[XISTALVO_AT_VERSION] = XISTALVO_IMAGE_VERSION;
+    image[XISTALVO_AT_VERSION] = (uint8_t)version;
     image[XISTALVO_AT_COUNT] = (uint8_t)count;
     for (i = 0; i < count; i++) {
         xistalvo_put_two(image + XISTALVO_AT_SPI(i), associations[i].spi);

@@ -47,6 +47,7 @@ static size_t image_of(const struct setting *setting, uint8_t *image)
     struct table table;
     struct association *entry = &table.entries[0];
     memset(&table, 0, sizeof table);
+    table.version = 1;
     table.count = 1;
     entry->spi = 9;
     entry->service = setting->service;
@@ -287,6 +288,86 @@ static void try_aos_frame(const struct aos_frame *aos)
     passed++;
 }
 
+/* ---- sets of channels, version 2 ---- */
+
+struct set_image {
+    const char *name;
+    unsigned version, kind, channel;
+    unsigned answer;
+};
+
+static const struct set_image set_images[] = {
+    {"sets: version 0", 0, 3, 5, 1},
+    {"sets: version 3", 3, 3, 5, 1},
+    {"sets: version 1, TM, channel 0", 1, 3, 0, 0},
+    {"sets: version 1, TM, channel 8", 1, 3, 8, 1},
+    {"sets: version 2, TM, the empty set", 2, 3, 0, 1},
+    {"sets: version 2, TM, channel 0 alone", 2, 3, 1, 0},
+    {"sets: version 2, TM, all channels", 2, 3, 255, 0},
+    {"sets: version 2, TC, channel 0", 2, 1, 0, 0},
+    {"sets: version 2, TC, channel 64", 2, 1, 64, 1},
+    {"sets: version 2, TC with segment header, channel 64", 2, 2, 64, 1},
+    {"sets: version 2, AOS, channel 64", 2, 4, 64, 1},
+};
+
+/* A TM frame of this channel, in an image of this version whose body holds that channel octet. */
+struct set_frame {
+    const char *name;
+    unsigned version, held, channel;
+    unsigned secured, checked; /* the answers; no MAC is there to be right, and the frame is too short for one */
+};
+
+static const struct set_frame set_frames[] = {
+    {"sets: the lowest bit, channel 0", 2, 0x01, 0, 0, 5},
+    {"sets: the highest bit, channel 7", 2, 0x80, 7, 0, 5},
+    {"slip: the highest bit for channel 0", 2, 0x80, 0, 4, 4},
+    {"slip: the lowest bit for channel 7", 2, 0x01, 7, 4, 4},
+    {"sets: two channels, the one", 2, 0x22, 1, 0, 5},
+    {"sets: two channels, the other", 2, 0x22, 5, 0, 5},
+    {"sets: two channels, neither", 2, 0x22, 2, 4, 4},
+    {"slip: a set read as a channel", 2, 0x05, 5, 4, 4},
+    {"slip: version 1 read as a set", 1, 0x05, 2, 4, 4},
+    {"sets: version 1, its channel", 1, 0x05, 5, 0, 5},
+};
+
+static void place_channels(struct input *input, unsigned version, unsigned kind, unsigned channel)
+{
+    struct table table;
+    expect(read_image(input->image, input->image_length, &table), "sets", "the image breaks a rule");
+    table.version = version;
+    table.entries[0].kind = kind;
+    table.entries[0].channel = channel;
+    table.entries[0].mask[MASK_LENGTH - 1] = 0;
+    write_image(&table, input->image);
+}
+
+static void try_set_image(const struct set_image *set)
+{
+    static const struct setting setting = SEND(1, 3, 0);
+    static struct input input;
+    start_input(&input, CALL_LOAD, &setting);
+    place_channels(&input, set->version, set->kind, set->channel);
+    expect(both_run(&test_random, &input).answer == set->answer, set->name, "another answer");
+    passed++;
+}
+
+static void try_set_frame(const struct set_frame *set)
+{
+    static const struct setting settings[] = {SEND(1, 3, 0), RECEIVE(1, 3, 100, 0)};
+    static struct input input;
+    for (unsigned side = 0; side < 2; side++) {
+        start_input(&input, side == 0 ? CALL_SECURE : CALL_CHECK, &settings[side]);
+        place_channels(&input, set->version, 3, set->held);
+        input.numbers[0] = 63;
+        input.frame_length = octets_of("01 B0 00 00 00 00", input.frame) + 14;
+        input.frame[1] |= (uint8_t)(set->channel << 1);
+        input.frame[6] = 0;
+        input.frame[7] = 9;
+        expect(both_run(&test_random, &input).answer == (side == 0 ? set->secured : set->checked), set->name, "another answer");
+    }
+    passed++;
+}
+
 /* ---- cuts, as a table ---- */
 
 struct a_cut {
@@ -394,6 +475,12 @@ int main(void)
     }
     for (size_t i = 0; i < sizeof aos_frames / sizeof aos_frames[0]; i++) {
         try_aos_frame(&aos_frames[i]);
+    }
+    for (size_t i = 0; i < sizeof set_images / sizeof set_images[0]; i++) {
+        try_set_image(&set_images[i]);
+    }
+    for (size_t i = 0; i < sizeof set_frames / sizeof set_frames[0]; i++) {
+        try_set_frame(&set_frames[i]);
     }
     try_listing("listing of B", &new_image, 0, "spi service kind direction state window next\n9 1 1 1 2 100 64\n");
     try_listing("listing of K", &last_image, 0, "spi service kind direction state window next\n9 1 1 1 2 100 none\n");

@@ -5,7 +5,7 @@
  *
  * An input is one call. Inputs come in worlds: two ends of a link with random associations, and about forty calls on them. The generator of
  * world W is made from the seed and W alone, so --from W takes a run up there. At the end the answers are counted by call, kind and service
- * of the association that the input was made for; a long run that misses an answer that can be reached fails. */
+ * of the association that the input was made for, TM associations with a set of channels apart; a long run that misses an answer that can be reached fails. */
 #include "support/both.h"
 #include "support/options.h"
 #include "support/worlds.h"
@@ -14,7 +14,7 @@
 #include <stdio.h>
 #include <string.h>
 
-enum { CALLS_PER_WORLD = 40, KINDS = 4, ANSWERS = 12, ENOUGH_FOR_EVERY_ANSWER = 50000 };
+enum { CALLS_PER_WORLD = 40, KINDS = 4, SET_ROW = KINDS + 1, ROWS, ANSWERS = 12, ENOUGH_FOR_EVERY_ANSWER = 50000 };
 
 struct run {
     struct options options;
@@ -24,7 +24,8 @@ struct run {
     uint64_t round_trips;
     uint64_t isolations;
     uint64_t stores[MOST_STORES + 1]; /* checks that were done, by their stores */
-    uint64_t tally[3][KINDS + 1][3][ANSWERS]; /* call; kind, or 0 for a number that names none; service, or 0 for an empty image; answer */
+    /* call; kind, or 0 for a number that names none, or SET_ROW for a TM association with a set; service, or 0 for an empty image; answer */
+    uint64_t tally[3][ROWS][3][ANSWERS];
 };
 
 /* The entry that an input is made for. An empty image has none, and gets an association that it does not hold. */
@@ -113,7 +114,7 @@ static void strain_field(struct random *random, struct input *input)
     case 2: entry->direction = RANDOM_OF(random, 0, 1, 2, 3, 255); break;
     case 3: entry->state = RANDOM_OF(random, 0, 1, 2, 3, 255); break;
     case 4: entry->spacecraft = RANDOM_OF(random, 255, 256, 1023, 1024, 65535); break;
-    case 5: entry->channel = RANDOM_OF(random, 7, 8, 63, 64, 255); break;
+    case 5: entry->channel = RANDOM_OF(random, 0, 7, 8, 63, 64, 255); break;
     case 6: entry->map = RANDOM_OF(random, 0, 1, 63, 64, 255); break;
     case 7: entry->window = RANDOM_OF(random, 0, 1, 1024, 1025, 65535); break;
     case 8: entry->mask[5] = (uint8_t)RANDOM_OF(random, 0, 1, 128, 255); break;
@@ -174,7 +175,7 @@ static void break_image(struct random *random, struct input *input)
         lay_out_33(input);
         break;
     default: /* version or count */
-        input->image[random_below(random, 2)] = (uint8_t)RANDOM_OF(random, 0, 1, 2, 31, 32, 33, 255);
+        input->image[random_below(random, 2)] = (uint8_t)RANDOM_OF(random, 0, 1, 2, 3, 31, 32, 33, 255);
         break;
     }
 }
@@ -319,8 +320,9 @@ static void count_outcome(struct run *run, const struct input *input, const stru
 {
     unsigned kind = input->which == CALL_LOAD ? target->association.kind : input->kind;
     unsigned service = target->is_held ? target->association.service : 0;
+    unsigned row = kind <= KINDS ? kind : 0;
     run->inputs++;
-    run->tally[input->which][kind <= KINDS ? kind : 0][service][outcome->answer]++;
+    run->tally[input->which][kind == 3 && target->association.has_set ? SET_ROW : row][service][outcome->answer]++;
     if (input->which == CALL_CHECK && outcome->answer == 0) {
         run->stores[outcome->stores]++;
     }
@@ -395,7 +397,12 @@ static void try_round_trip(struct run *run, const struct input *sent, const stru
     static struct input input;
     struct random *random = &run->random;
     struct table table;
+    struct header secured;
     table_of(other, &table);
+    bool is_read = read_secured_frame(sent->kind, sent->output, securing->length, &secured);
+    if (is_read && !serves_channel(&table.entries[target->entry], secured.channel)) {
+        return;
+    }
     table.entries[target->entry].state = 2;
     set_table(other, &table);
     uint32_t window = table.entries[target->entry].window;
@@ -629,7 +636,7 @@ static unsigned faults_of_row(unsigned which, const uint64_t answers[ANSWERS])
 static unsigned print_tally(const struct run *run)
 {
     static const char *const calls[] = {"load", "secure", "check"};
-    static const char *const names[KINDS + 1] = {"-", "1", "2", "3", "4"};
+    static const char *const names[ROWS] = {"-", "1", "2", "3", "4", "set"};
     unsigned faults = 0;
     printf("%-6s %4s %7s", "call", "kind", "service");
     for (unsigned answer = 0; answer < ANSWERS; answer++) {
@@ -637,7 +644,7 @@ static unsigned print_tally(const struct run *run)
     }
     putchar('\n');
     for (unsigned which = 0; which < 3; which++) {
-        for (unsigned kind = 0; kind <= KINDS; kind++) {
+        for (unsigned kind = 0; kind < ROWS; kind++) {
             for (unsigned service = 0; service < 3; service++) {
                 bool is_whole = kind != 0 && service != 0;
                 print_row(calls[which], names[kind], names[service], run->tally[which][kind][service]);

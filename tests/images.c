@@ -28,7 +28,7 @@ static void strain(struct random *random, struct table *table, unsigned field)
     case 3: entry->direction = RANDOM_OF(random, 0, 1, 2, 3, 255); break;
     case 4: entry->state = RANDOM_OF(random, 0, 2, 3, 255); break;
     case 5: entry->spacecraft = RANDOM_OF(random, 255, 256, 1023, 1024, 65535); break;
-    case 6: entry->channel = RANDOM_OF(random, 7, 8, 63, 64, 255); break;
+    case 6: entry->channel = RANDOM_OF(random, 0, 7, 8, 63, 64, 255); break;
     case 7: entry->map = RANDOM_OF(random, 0, 1, 63, 64, 255); break;
     case 8: entry->window = RANDOM_OF(random, 0, 1, 1024, 1025, 65535); break;
     case 9: entry->mask[5] = (uint8_t)RANDOM_OF(random, 0, 1, 128, 255); break;
@@ -66,11 +66,11 @@ static void judge(const struct table *table, const uint8_t *expected, size_t len
         associations[i] = association_of(&table->entries[i]);
     }
     memset(image, UNTOUCHED, sizeof image);
-    if (xistalvo_make_image(associations, table->count, image, length - 1) != 0 || !is_untouched(image, sizeof image)) {
+    if (xistalvo_make_image(table->version, associations, table->count, image, length - 1) != 0 || !is_untouched(image, sizeof image)) {
         both_fail("an image is laid out in a buffer that is too short for it");
     }
-    size_t made = xistalvo_make_image(associations, table->count, image, sizeof image);
-    if ((made != 0) != is_accepted || (xistalvo_image_fault(associations, table->count, &at) == NULL) != is_accepted) {
+    size_t made = xistalvo_make_image(table->version, associations, table->count, image, sizeof image);
+    if ((made != 0) != is_accepted || (xistalvo_image_fault(table->version, associations, table->count, &at) == NULL) != is_accepted) {
         both_fail(is_accepted ? "a table is refused whose image loads" : "a table is laid out whose image does not load");
     }
     if (is_accepted && (made != length || memcmp(image, expected, length) != 0)) {
@@ -120,9 +120,9 @@ static void try_too_many(void)
         associations[i].direction = XISTALVO_SEND;
         associations[i].window = 1;
     }
-    if (xistalvo_make_image(associations, MOST_ENTRIES, image, sizeof image) != LARGEST_IMAGE
-        || xistalvo_make_image(associations, MOST_ENTRIES + 1, image, sizeof image) != 0
-        || xistalvo_image_fault(associations, MOST_ENTRIES + 1, &at) == NULL) {
+    if (xistalvo_make_image(XISTALVO_IMAGE_VERSION, associations, MOST_ENTRIES, image, sizeof image) != LARGEST_IMAGE
+        || xistalvo_make_image(XISTALVO_IMAGE_VERSION, associations, MOST_ENTRIES + 1, image, sizeof image) != 0
+        || xistalvo_image_fault(XISTALVO_IMAGE_VERSION, associations, MOST_ENTRIES + 1, &at) == NULL) {
         both_fail("32 associations are to be laid out, and 33 refused");
     }
 }

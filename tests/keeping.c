@@ -275,7 +275,7 @@ static void make_link(struct link *link, struct random *random)
     for (unsigned end = 0; end < 2; end++) {
         struct xistalvo_association association = {SPI, XISTALVO_AUTHENTICATION, XISTALVO_TC, (uint8_t)(end + 1), XISTALVO_OPERATIONAL,
                                                    27, 5, 0, 1024, {0}, {1, 2, 3}, mark};
-        if (xistalvo_make_image(&association, 1, link->memory[end], LENGTH) != LENGTH
+        if (xistalvo_make_image(XISTALVO_IMAGE_VERSION, &association, 1, link->memory[end], LENGTH) != LENGTH
             || !write_new_file(paths[end], link->memory[end], LENGTH)) {
             both_fail("an image cannot be made");
         }

@@ -164,7 +164,7 @@ static size_t header_length(void) { return association.kind == 1 ? 5 : 6; }
 static void make_input(unsigned kind, size_t data_length, uint64_t number)
 {
     static const uint8_t headers[4][6] = {{0x00, 0x1B, 0x14}, {0x00, 0x1B, 0x14}, {0x01, 0xBA}, {0x46, 0xC5}};
-    struct table table = {.count = 1};
+    struct table table = {.version = 1, .count = 1};
     struct header header;
     uint8_t clear[LARGEST_FRAME], sequence[SEQUENCE_LENGTH];
     association = (struct association){.spi = 9, .service = 2, .kind = kind, .direction = 2, .state = 2, .spacecraft = 27, .channel = 5,
@@ -218,7 +218,7 @@ static void make_signs(size_t data_length)
     }
 }
 
-static void break_image(void) { image[0] = 2; }
+static void break_image(void) { image[0] = 3; }
 static void break_numbers(void) { numbers[0] += 64; }
 static void break_version(void) { frame[0] ^= 0x40; }
 static void break_spi(void) { frame[header_length()] ^= 1; }

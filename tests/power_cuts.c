@@ -1,5 +1,5 @@
 /* Random runs of loads, sendings and checks at both ends of a link, with power failing after any stored octet, and demand 3 of document 01
- * held to what really went out and was really released, association by association:
+ * held to what really went out and was really released, association by association, over all channels of one together:
  *
  *   no number goes out twice, and none is released twice;
  *   numbers only rise;
@@ -37,6 +37,7 @@ struct sent_frame {
 struct history {
     bool has_sent;
     uint32_t sent;
+    unsigned channel; /* of the last frame sent */
     uint64_t loads_since; /* at the sending end, since the last sending */
     bool has_released;
     uint32_t released;
@@ -52,7 +53,7 @@ struct run {
     struct history histories[MOST_ASSOCIATIONS];
     struct input input;   /* the call that is prepared */
     bool is_tampered;     /* its frame is not as it was sent */
-    uint64_t steps, loads, sent, released, refused, cut_sendings, cut_checks, cuts_tried;
+    uint64_t steps, loads, sent, changes /* of the channel under one association */, released, refused, cut_sendings, cut_checks, cuts_tried;
 };
 
 static void association_of(const struct run *run, size_t side, size_t entry, struct association *association)
@@ -86,7 +87,7 @@ static void load(struct run *run, size_t side)
 
 /* ---- the conclusions ---- */
 
-static void note_sent(struct run *run, struct history *history, uint32_t number)
+static void note_sent(struct run *run, struct history *history, uint32_t number, unsigned channel)
 {
     if (history->has_sent && number <= history->sent) {
         both_fail("demand 3: a number went out that does not exceed the one before");
@@ -94,7 +95,9 @@ static void note_sent(struct run *run, struct history *history, uint32_t number)
     if (history->has_sent && (uint64_t)number - history->sent > 1 + 64 * history->loads_since) {
         both_fail("demand 3: a number went out that exceeds the one before by more than 1 plus 64 for each load");
     }
+    run->changes += history->has_sent && channel != history->channel;
     history->has_sent = true;
+    history->channel = channel;
     history->sent = number;
     history->loads_since = 0;
     run->sent++;
@@ -131,6 +134,16 @@ static void prepare_sending(struct run *run, size_t side, size_t entry, struct a
     input->output_length = SMALL_FRAME;
 }
 
+/* The channel of a secured frame. */
+static unsigned channel_in(const uint8_t *frame, size_t length, const struct association *association)
+{
+    struct header header;
+    if (!read_secured_frame(association->kind, frame, length, &header)) {
+        both_fail("a frame that went out does not obey its kind");
+    }
+    return header.channel;
+}
+
 static void keep_frame(struct run *run, struct history *history, const struct association *association, size_t length)
 {
     struct sent_frame *kept = &history->frames[history->frame_count++ % FRAMES_KEPT];
@@ -157,7 +170,8 @@ static void send(struct run *run, size_t side, size_t entry)
         return;
     }
     end_of_input(&run->world.ends[side], &run->input);
-    note_sent(run, &run->histories[entry], number_in(run->input.output, &association));
+    note_sent(run, &run->histories[entry], number_in(run->input.output, &association),
+              channel_in(run->input.output, outcome.length, &association));
     keep_frame(run, &run->histories[entry], &association, outcome.length);
 }
 
@@ -192,8 +206,9 @@ static void check(struct run *run, size_t side, size_t entry)
     uint32_t last = run->input.numbers[entry];
     bool is_in_window = last < frame->number && frame->number - last <= association.window;
     struct outcome outcome = both_run(&run->random, &run->input);
-    if (!run->is_tampered && outcome.answer != (is_in_window ? 0 : 8)) {
-        both_fail("demand 2: a frame as it was sent was not released in the window, or not refused by 8 outside it");
+    bool is_served = serves_channel(&association, channel_in(frame->frame, frame->length, &association));
+    if (!run->is_tampered && outcome.answer != (!is_served ? 4 : is_in_window ? 0 : 8)) {
+        both_fail("demand 2: a frame as it was sent was not released in the window, or not refused by 8 outside it or by 4 for its channel");
     }
     if (outcome.answer != 0) {
         run->refused++;
@@ -346,11 +361,11 @@ int main(int argument_count, char **arguments)
         run_once(&run, number++);
     }
     printf("power_cuts: seed %" PRIu64 ", %" PRIu64 " steps in %" PRIu64 " runs: %" PRIu64 " loads, %" PRIu64 " frames sent, %" PRIu64
-           " released, %" PRIu64 " calls refused, %" PRIu64 " sendings and %" PRIu64 " checks cut, %" PRIu64
+           " of them of another channel than the one before, %" PRIu64 " released, %" PRIu64 " calls refused, %" PRIu64 " sendings and %" PRIu64 " checks cut, %" PRIu64
            " cuts tried; demand 3 held\n",
-           run.options.seed, run.steps, number - run.options.from, run.loads, run.sent, run.released, run.refused, run.cut_sendings,
+           run.options.seed, run.steps, number - run.options.from, run.loads, run.sent, run.changes, run.released, run.refused, run.cut_sendings,
            run.cut_checks, run.cuts_tried);
-    bool is_enough = run.sent > 0 && run.released > 0 && run.cut_sendings > 0 && run.cut_checks > 0;
+    bool is_enough = run.sent > 0 && run.changes > 0 && run.released > 0 && run.cut_sendings > 0 && run.cut_checks > 0;
     if (!is_enough) {
         puts("power_cuts: too few steps to show anything");
     }

@@ -79,7 +79,7 @@ static size_t taken_over(int pattern, void (*call)(void))
 static void make_ends(unsigned service)
 {
     for (unsigned end = 0; end < 2; end++) {
-        struct table table = {.count = MOST_ENTRIES};
+        struct table table = {.version = 1, .count = MOST_ENTRIES};
         for (unsigned i = 0; i < MOST_ENTRIES; i++) {
             table.entries[i] = (struct association){.spi = i + 1, .service = service, .kind = kind, .direction = end + 1, .state = 2,
                                                     .spacecraft = 27, .channel = 5, .window = 1024, .key = {(uint8_t)i},

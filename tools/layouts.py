@@ -1,5 +1,5 @@
 #!/usr/bin/env python3
-"""Draws docs/layouts/*.svg, the pictures of docs/LAYOUTS.md, from the widths that document 01 gives.
+"""Draws docs/layouts/*.svg, the pictures of docs/LAYOUTS.md, from the widths that documents 01 and 02 give.
 
   python3 tools/layouts.py            writes the pictures
   python3 tools/layouts.py --check    ends with 1 if a picture is not what this script draws
@@ -300,7 +300,7 @@ def image():
     heading(p, p.title, "k entries, 0 to 32. Numbers are big-endian. Widths are not to scale.")
     y = 112
     contents = [
-        (66, SORT, ["version", "1", "1 octet"], "0"),
+        (66, SORT, ["version", "1, 2", "1 octet"], "0"),
         (62, LENGTH, ["count", "k", "1 octet"], "1"),
         (82, NUMBER, ["SPI", "entry 0", "2 octets"], "2"),
         (82, LENGTH, ["position", "of body 0", "2 octets"], "4"),
@@ -355,7 +355,7 @@ def body():
             ("direc-", 1, SORT, ["*tion", "1, 2"]),
             ("state", 1, SORT, ["0 to 2"]),
             ("spacecraft", 2, NAMES, ["0 to 1,023;", "AOS to 255"]),
-            ("virtual", 1, NAMES, ["*channel", "0-63;", "TM 0-7"]),
+            ("virtual", 1, NAMES, ["*channel", "0-63;", "TM: see"]),
             ("MAP", 1, NAMES, ["kind 2:", "0-63,", "else 0"]),
             ("window", 2, NUMBER, ["1 to 1,024"]),
             ("header mask", 6, FREE, ["any; for kind 1 the last octet is 0"]),
@@ -387,7 +387,8 @@ def body():
     p.text(x, last + 34, "Raising m by one changes one bit of the code, so one octet.", 12.5, "start")
     p.note(y, "service: 1 authentication, 2 authenticated encryption. kind: 1 TC, 2 TC with segment header, 3 TM, 4 AOS.")
     p.note(y + 18, "direction: 1 send, 2 receive. state: 0 unkeyed, 1 keyed, 2 operational. xor: exclusive or; m/2 is rounded down.")
-    legend(p, y + 46, [(SORT, "which of several"), (NAMES, "names the channel"), (NUMBER, "for the number"), (MAC, "secret")])
+    p.note(y + 36, "virtual channel of TM: 0 to 7 in version 1; in version 2 a set, 1 to 255, its lowest bit for channel 0.")
+    legend(p, y + 64, [(SORT, "which of several"), (NAMES, "names the channel"), (NUMBER, "for the number"), (MAC, "secret")])
     return p
 
 

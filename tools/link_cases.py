@@ -1,8 +1,8 @@
 #!/usr/bin/env python3
 """Makes crates/link_cases/stdin, calls of the module, and crates/link_cases/stdout, what is expected to come back and to change.
 
-All of it is read off document 01, and request 1 of document 02, here, over whole numbers and strings of octets, and not off the code; AES is OpenSSL's. Each call below
-states the answer that the paper gives it, and the reading is held to that as well:
+All of it is read off document 01, and requests 1 and 2 of document 02, here, over whole numbers and strings of octets, and not off the code;
+AES is OpenSSL's. Each call below states the answer that the paper gives it, and the reading is held to that as well:
 
   python3 tools/link_cases.py        (needs the Python package `cryptography`)
 """
@@ -39,6 +39,13 @@ class Entry:
     key: bytes = bytes(range(32))
     mark: int = 0
     code: int = None
+    version: int = 1
+
+    def channels(self):
+        """The channels that it serves: of kind 3 in version 2, those whose bits are 1, the lowest bit for channel 0."""
+        if (self.version, self.kind) == (2, 3):
+            return {c for c in range(8) if self.channel & 1 << c}
+        return {self.channel}
 
     def body(self):
         code = self.mark ^ self.mark // 2 if self.code is None else self.code
@@ -54,7 +61,7 @@ def image_of(*entries, positions=None):
     k = len(entries)
     places = positions_of(k) if positions is None else positions
     contents = b"".join(e.spi.to_bytes(2, "big") + place.to_bytes(2, "big") for e, place in zip(entries, places))
-    return bytes([1, k]) + contents + b"".join(e.body() for e in entries)
+    return bytes([max([1, *(e.version for e in entries)]), k]) + contents + b"".join(e.body() for e in entries)
 
 
 def decoded_mark(code):
@@ -65,12 +72,12 @@ def decoded_mark(code):
     return m
 
 
-def read_body(spi, body):
+def read_body(version, spi, body):
     values, at = {}, 0
     for name, n in FIELDS.items():
         part, at = body[at : at + n], at + n
         values[name] = part if name in ("mask", "key") else int.from_bytes(part, "big")
-    return Entry(spi=spi, mark=decoded_mark(values["code"]), **values)
+    return Entry(version=version, spi=spi, mark=decoded_mark(values["code"]), **values)
 
 
 def is_allowed(e):
@@ -81,7 +88,8 @@ def is_allowed(e):
         and e.direction in (1, 2)
         and e.state in (0, 1, 2)
         and e.spacecraft <= (255 if e.kind == 4 else 1023)
-        and e.channel <= (7 if e.kind == 3 else 63)
+        and e.channels()
+        and max(e.channels()) <= (7 if e.kind == 3 else 63)
         and e.map <= (63 if e.kind == 2 else 0)
         and 1 <= e.window <= 1024
         and (e.kind != 1 or e.mask[5] == 0)
@@ -91,14 +99,14 @@ def is_allowed(e):
 
 def read_image(image):
     """The entries, or None where the image breaks a rule."""
-    if len(image) < 2 or image[0] != 1 or image[1] > 32 or len(image) != 2 + 56 * image[1]:
+    if len(image) < 2 or image[0] not in (1, 2) or image[1] > 32 or len(image) != 2 + 56 * image[1]:
         return None
     k, entries = image[1], []
     for i in range(k):
         spi, position = (int.from_bytes(image[at : at + 2], "big") for at in (2 + 4 * i, 4 + 4 * i))
         if position != 2 + 4 * k + 52 * i or (entries and spi <= entries[-1].spi):
             return None
-        entries.append(read_body(spi, image[position : position + 52]))
+        entries.append(read_body(image[0], spi, image[position : position + 52]))
     return entries if all(map(is_allowed, entries)) else None
 
 
@@ -177,8 +185,10 @@ def identifiers(kind, frame):
 
 def matching(entries, spi, direction, kind, frame):
     """The first entry of the contents that matches, or None."""
-    wanted = (spi, 2, direction, kind, *identifiers(kind, frame))
-    found = [i for i, e in enumerate(entries) if (e.spi, e.state, e.direction, e.kind, e.spacecraft, e.channel, e.map) == wanted]
+    spacecraft, channel, map_id = identifiers(kind, frame)
+    wanted = (spi, 2, direction, kind, spacecraft, map_id)
+    alike = [i for i, e in enumerate(entries) if (e.spi, e.state, e.direction, e.kind, e.spacecraft, e.map) == wanted]
+    found = [i for i in alike if channel in entries[i].channels()]
     return found[0] if found else None
 
 
@@ -569,7 +579,7 @@ def broken_entries():
 
 def broken_images():
     good, other = image_of(B), replace(B, spi=10)
-    yield from (b"", b"\x01", b"\x00\x00", b"\x02\x00", b"\x01\x00\x00", good[:-1], good + b"\x00", b"\x02" + good[1:])
+    yield from (b"", b"\x01", b"\x00\x00", b"\x03\x00", b"\x01\x00\x00", good[:-1], good + b"\x00", b"\x03" + good[1:])
     yield from (good[:5] + bytes([x]) + good[6:] for x in (5, 7))
     yield bytes([1, 33]) + image_of(*(replace(B, spi=i + 1) for i in range(33)))[2:]
     yield from (image_of(replace(B, spi=x)) for x in (0, 65535))
@@ -712,6 +722,62 @@ def aos_fields(run):
     run.secure(4, 9, aos(b"data", 2**24 - 1, 255, spacecraft=104), 0)
 
 
+def channel_sets(run):
+    """Version 2: a TM association with several channels, and what a slip would make of it."""
+    run.case("1: version 2, kind 3: the empty set; other kinds have a channel; version 1 has no set; versions 0 and 3")
+    for e in (replace(TELEMETRY, version=2, channel=0), replace(TELEMETRY, channel=8), replace(TELEMETRY, channel=128)):
+        run.image(image_of(e))
+        run.load(1)
+    for e in (replace(B, channel=64), replace(SEGMENT, channel=64), replace(CAMERAS, channel=64)):
+        run.image(image_of(replace(e, version=2)))
+        run.load(1)
+    for version in (0, 3, 4, 255):
+        run.image(bytes([version]) + image_of(replace(TELEMETRY, channel=1))[1:])
+        run.load(1)
+    run.case("version 2, kinds 1, 2 and 4: a channel, as in version 1")
+    for e in (replace(B, channel=0), B, replace(SEGMENT, channel=63), replace(CAMERAS, channel=63)):
+        run.fresh(replace(e, version=2))
+        ask(run, replace(e, version=2), 0)
+    run.case("version 2, kind 3: each channel of a set, and 4 for every other, sending and receiving")
+    for chosen in (0x01, 0x80, 0x22, 0x05, 0xA7, 0xFF):
+        for direction in (1, 2):
+            e = replace(TELEMETRY, version=2, channel=chosen, direction=direction)
+            run.fresh(e)
+            for channel in range(8):
+                n = run.numbers[0] + 1
+                ask(run, replace(e, version=1, channel=channel), 0 if chosen & 1 << channel else 4, n)
+    run.case("two channels of one set: one number for both, over loads and cuts")
+    here = replace(TELEMETRY, version=2, channel=0x22, direction=1)
+    run.fresh(here)
+    sent = [run.secure(3, here.spi, tm(b"data", channel=c), 0) for c in (1, 5, 5, 1)]
+    run.load()
+    sent += [run.secure(3, here.spi, tm(b"data", channel=c), 0) for c in (5, 1)]
+    run.cut(0, 192, 1, 1)
+    run.load()
+    sent += [run.secure(3, here.spi, tm(b"data", channel=c), 0) for c in (1, 5)]
+    numbers = [opened(here, 3, frame)[0] for frame in sent]
+    assert numbers == [64, 65, 66, 67, 128, 129, 256, 257], numbers
+    run.case("at the other end: a version 2 set, the same or another, or version 1 with one of the channels")
+    for held, version in ((0x22, 2), (0x23, 2), (0x02, 2), (1, 1), (5, 1)):
+        there = replace(here, direction=2, version=version, channel=held, window=1024)
+        run.fresh(there)
+        for frame in sent:
+            run.check(3, frame, 0 if identifiers(3, frame)[1] in there.channels() else 4)
+        run.check(3, sent[0], 8 if 1 in there.channels() else 4)
+    run.case("from version 1 to version 2: octet 0, and octet 6 of TM bodies; marks and numbers stay")
+    before = [replace(B, mark=3), replace(TELEMETRY, spi=10, channel=5, direction=1, mark=70)]
+    run.fresh(*before)
+    ask(run, before[0], 0)
+    ask(run, before[1], 0)
+    last = list(run.numbers)
+    run.image(bytes([2]) + run.octets[1 : 10 + 52 + 6] + bytes([1 << 5 | 1 << 2]) + run.octets[10 + 52 + 7 :])
+    assert [e.mark for e in read_image(run.octets)] == [n // 64 for n in last[:2]]
+    ask(run, before[0], 0)
+    for channel in (5, 2):
+        ask(run, replace(before[1], channel=channel), 0)
+    assert run.numbers[:2] == [last[0] + 1, last[1] + 2]
+
+
 def frame_refusals(run):
     """3, of clear frames and of secured ones, under an association of their kind."""
     for kind, ocf in ((1, b""), (2, b""), (3, b""), (3, b"ocf."), (4, b"")):
@@ -839,6 +905,7 @@ def main():
     three_entries(run)
     frame_refusals(run)
     aos_fields(run)
+    channel_sets(run)
     entry_refusals(run)
     identifier_bits(run)
     orders(run)

@@ -1,7 +1,7 @@
 #!/usr/bin/env python3
 """Makes the images and the expected listings of crates/listing and crates/listing_cases, their files stdin and stdout.
 
-The rules are read off document 01 ('The image', 'The listing program') and document 02 (request 1) here, and not off the code:
+The rules are read off document 01 ('The image', 'The listing program') and document 02 (requests 1 and 2) here, and not off the code:
 
   python3 tools/listing_cases.py
 """
@@ -59,16 +59,17 @@ def fields_of(body):
     return fields
 
 
-def body_ok(b):
+def body_ok(version, b):
     if b["kind"] not in MOST:
         return False
     most_spacecraft, most_channel, most_map = MOST[b["kind"]]
+    is_set = (version, b["kind"]) == (2, 3)
     return (
         b["service"] in (1, 2)
         and b["direction"] in (1, 2)
         and b["state"] in (0, 1, 2)
         and b["spacecraft"] <= most_spacecraft
-        and b["channel"] <= most_channel
+        and (b["channel"] != 0 if is_set else b["channel"] <= most_channel)
         and b["map"] <= most_map
         and 1 <= b["window"] <= 1024
         and (b["kind"] != 1 or b["mask"] % 256 == 0)
@@ -77,14 +78,14 @@ def body_ok(b):
 
 
 def listing(data):
-    if len(data) < 2 or data[0] != 1 or data[1] > 32 or len(data) != 2 + 56 * data[1]:
+    if len(data) < 2 or data[0] not in (1, 2) or data[1] > 32 or len(data) != 2 + 56 * data[1]:
         return REFUSED
     k, before, text = data[1], 0, TITLE
     for i in range(k):
         contents = data[2 + 4 * i : 6 + 4 * i]
         spi, position = int.from_bytes(contents[:2], "big"), int.from_bytes(contents[2:], "big")
         b = fields_of(data[2 + 4 * k + 52 * i :][:52])
-        if not before < spi <= 65534 or position != 2 + 4 * k + 52 * i or not body_ok(b):
+        if not before < spi <= 65534 or position != 2 + 4 * k + 52 * i or not body_ok(data[0], b):
             return REFUSED
         before, number = spi, 64 * mark_of(b["code"]) + 64
         shown = [spi, b["service"], b["kind"], b["direction"], b["state"], b["window"]]
@@ -137,6 +138,14 @@ def wholes():
     yield "kind 2 at its limits", image([entry(kind=2, channel=63, map=63, mask=2**48 - 1)])
     yield "kind 4 at its limits", image([entry(kind=4, spacecraft=255, channel=63, mask=2**48 - 1)])
     yield "kind 4, both services and directions", image([entry(spi=1 + i, kind=4, service=1 + i % 2, direction=1 + i // 2) for i in range(4)])
+    yield "version 2, no entry", image([], version=2)
+    yield "version 2, case B", image([entry()], version=2)
+    for chosen in (1, 5, 8, 64, 128, 255):
+        yield "version 2, kind 3, set %d" % chosen, image([entry(kind=3, channel=chosen)], version=2)
+    full = [dict(most, spi=65503 + i, code=gray(67108862 - i), channel=255) for i in range(32)]
+    yield "version 2, 32 entries, 1,794 octets", image(full, version=2)
+    kinds = [entry(spi=1 + i, kind=1 + i % 4, channel=i // 4 + 1, state=i % 3) for i in range(32)]
+    yield "version 2, every kind", image(kinds, version=2)
     yield "kind 1 at its limits", image([entry(channel=63, spacecraft=1023, mask=0xFFFFFFFFFF00)])
 
 
@@ -158,7 +167,13 @@ def broken():
     yield "no octets", b""
     yield "one octet", b"\x01"
     yield "version 0", image([entry()], version=0)
-    yield "version 2", image([entry()], version=2)
+    yield "version 3", image([entry()], version=3)
+    yield "version 255", image([entry()], version=255)
+    yield "version 2, kind 3, the empty set", image([entry(kind=3, channel=0)], version=2)
+    yield "version 2, the empty set behind another", image([entry(kind=3, channel=1), entry(spi=10, kind=3, channel=0)], version=2)
+    yield "version 2, kind 1, channel 64", image([entry(channel=64)], version=2)
+    yield "version 2, kind 2, channel 64", image([entry(kind=2, channel=64)], version=2)
+    yield "version 2, kind 4, channel 64", image([entry(kind=4, channel=64)], version=2)
     yield "count one less", image([entry()], count=0)
     yield "count one more", image([entry()], count=2)
     yield "count 33, 1,850 octets", image(full + [entry(spi=33)])

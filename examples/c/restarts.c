@@ -20,7 +20,7 @@ static void build_image(struct end *end, uint8_t direction)
 {
     struct xistalvo_association association = {SPI, XISTALVO_AUTHENTICATION, XISTALVO_TC, direction, XISTALVO_OPERATIONAL, 27, 5, 0,
                                                WINDOW, {0xFF, 0xFF, 0xFF, 0xFF, 0xFF, 0x00}, {1, 2, 3}, 0};
-    xistalvo_make_image(&association, 1, end->image, IMAGE_LENGTH);
+    xistalvo_make_image(XISTALVO_IMAGE_VERSION, &association, 1, end->image, IMAGE_LENGTH);
 }
 
 /* After a start, whatever the reason: the image is there, the numbers are not. */

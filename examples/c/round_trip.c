@@ -23,8 +23,8 @@ static void build_image(uint8_t image[IMAGE_LENGTH], uint8_t direction)
     for (uint8_t i = 0; i < sizeof association.key; i++) {
         association.key[i] = i; /* a real one comes from the key office */
     }
-    if (xistalvo_make_image(&association, 1, image, IMAGE_LENGTH) == 0) {
-        puts(xistalvo_association_fault(&association));
+    if (xistalvo_make_image(XISTALVO_IMAGE_VERSION, &association, 1, image, IMAGE_LENGTH) == 0) {
+        puts(xistalvo_association_fault(XISTALVO_IMAGE_VERSION, &association));
     }
 }
 

@@ -36,7 +36,7 @@ static void prepare(uint8_t service)
                                                        27, 5, 0, 1024, {0}, {(uint8_t)i}, end == 0 ? 15 : 0};
             associations[i] = association;
         }
-        xistalvo_make_image(associations, COUNT, images[end], sizeof images[end]);
+        xistalvo_make_image(XISTALVO_IMAGE_VERSION, associations, COUNT, images[end], sizeof images[end]);
         xistalvo_load(images[end], sizeof images[end], numbers[end], XISTALVO_NUMBERS);
     }
     clear_length = LENGTH - (service == XISTALVO_AUTHENTICATION ? 22 : 30);

@@ -103,7 +103,7 @@ static bool matches(const struct association *association, unsigned spi, unsigne
         && association->direction == direction
         && association->kind == kind
         && association->spacecraft == header->spacecraft
-        && association->channel == header->channel
+        && serves_channel(association, header->channel)
         && (kind != 2 || association->map == header->map);
 }
 
@@ -156,7 +156,7 @@ void carry_out_stores(const struct effect *effect, size_t j, uint8_t *image)
 
 uint32_t reading_raise(uint8_t *image, size_t length, unsigned entry, uint32_t number, uint32_t stores)
 {
-    if (length < 2 || image[0] != 1 || image[1] > MOST_ENTRIES || length != 2 + 56u * image[1] || entry >= image[1]) {
+    if (length < 2 || (image[0] != 1 && image[0] != 2) || image[1] > MOST_ENTRIES || length != 2 + 56u * image[1] || entry >= image[1]) {
         return 0;
     }
     size_t count = image[1];

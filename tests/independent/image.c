@@ -1,4 +1,4 @@
-/* Document 01, 'The image'; document 02, request 1, for kind 4. */
+/* Document 01, 'The image'; document 02, request 1, for kind 4, and request 2, for version 2. */
 #include "reading.h"
 
 #include <string.h>
@@ -53,8 +53,16 @@ uint32_t mark_of_code(uint32_t code)
     return mark;
 }
 
+bool serves_channel(const struct association *association, unsigned channel)
+{
+    if (association->has_set) {
+        return channel < 8 && (association->channel & (1u << channel)) != 0;
+    }
+    return association->channel == channel;
+}
+
 /* The rows of the body's table, in its order. */
-static void read_body(struct cursor *cursor, struct association *body)
+static void read_body(struct cursor *cursor, unsigned version, struct association *body)
 {
     body->service = take_one(cursor);
     body->kind = take_one(cursor);
@@ -62,6 +70,7 @@ static void read_body(struct cursor *cursor, struct association *body)
     body->state = take_one(cursor);
     body->spacecraft = take_two(cursor);
     body->channel = take_one(cursor);
+    body->has_set = version == 2 && body->kind == 3;
     body->map = take_one(cursor);
     body->window = take_two(cursor);
     take_many(cursor, body->mask, MASK_LENGTH);
@@ -69,7 +78,8 @@ static void read_body(struct cursor *cursor, struct association *body)
     body->mark = mark_of_code(take_four(cursor));
 }
 
-/* The column 'allowed'; 'For kind 4 the image allows spacecraft up to 255, channel up to 63, MAP 0'. Two equal keys of service 2 break no
+/* The column 'allowed'; 'For kind 4 the image allows spacecraft up to 255, channel up to 63, MAP 0'; of a set, 'zero breaks
+ * the image rule'. Two equal keys of service 2 break no
  * rule: the key office's word is no rule of the image. */
 static bool body_obeys(const struct association *body)
 {
@@ -78,7 +88,7 @@ static bool body_obeys(const struct association *body)
         && is_within(body->direction, 1, 2)
         && is_within(body->state, 0, 2)
         && is_within(body->spacecraft, 0, body->kind == 4 ? 255 : 1023)
-        && is_within(body->channel, 0, body->kind == 3 ? 7 : 63)
+        && (body->has_set ? is_within(body->channel, 1, 255) : is_within(body->channel, 0, body->kind == 3 ? 7 : 63))
         && is_within(body->map, 0, body->kind == 2 ? 63 : 0)
         && is_within(body->window, 1, 1024)
         && (body->kind != 1 || body->mask[MASK_LENGTH - 1] == 0)
@@ -107,16 +117,16 @@ bool read_image(const uint8_t *image, size_t length, struct table *table)
         return false;
     }
     struct cursor cursor = {image};
-    unsigned version = take_one(&cursor);
+    table->version = take_one(&cursor);
     table->count = take_one(&cursor);
-    if (version != 1 || table->count > MOST_ENTRIES || length != 2 + 56 * table->count) {
+    if (!is_within(table->version, 1, 2) || table->count > MOST_ENTRIES || length != 2 + 56 * table->count) {
         return false;
     }
     if (!read_contents(&cursor, table)) {
         return false;
     }
     for (size_t i = 0; i < table->count; i++) {
-        read_body(&cursor, &table->entries[i]);
+        read_body(&cursor, table->version, &table->entries[i]);
         if (!body_obeys(&table->entries[i])) {
             return false;
         }
@@ -151,7 +161,7 @@ static uint8_t *write_body(uint8_t *to, const struct association *body)
 
 size_t write_image(const struct table *table, uint8_t *image)
 {
-    uint8_t *to = put(image, 1, 1);
+    uint8_t *to = put(image, table->version, 1);
     to = put(to, (uint32_t)table->count, 1);
     for (size_t i = 0; i < table->count; i++) {
         to = put(to, table->entries[i].spi, 2);

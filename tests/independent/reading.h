@@ -30,7 +30,8 @@ struct association {
     unsigned direction;
     unsigned state;
     unsigned spacecraft;
-    unsigned channel;
+    unsigned channel; /* or, where it has a set, eight bits, 'the lowest bit for channel 0' */
+    bool has_set;     /* document 02, request 2: kind 3 in version 2; not laid out */
     unsigned map;
     unsigned window;
     uint8_t mask[MASK_LENGTH];
@@ -39,6 +40,7 @@ struct association {
 };
 
 struct table {
+    unsigned version; /* 1 or 2 */
     size_t count;
     struct association entries[MOST_ENTRIES];
 };
@@ -48,6 +50,9 @@ bool read_image(const uint8_t *image, size_t length, struct table *table);
 
 /* The reverse: lays a table out, and gives the length of the image. Tests no rule, so that tests can break them. */
 size_t write_image(const struct table *table, uint8_t *image);
+
+/* Whether frames of a channel match: it is the association's, or 'is in the set'. */
+bool serves_channel(const struct association *association, unsigned channel);
 
 /* The mark and its code: 'm exclusive-or half of m rounded down'. */
 uint32_t code_of_mark(uint32_t mark);

@@ -52,7 +52,40 @@ static void any_own_fields(struct random *random, struct association *associatio
     association->mark = any_mark(random);
 }
 
-static void any_association(struct random *random, struct association *association)
+/* A channel that an association serves. */
+static unsigned any_channel(struct random *random, const struct association *association)
+{
+    unsigned channel = association->has_set ? random_below(random, 8) : association->channel;
+    while (!serves_channel(association, channel)) {
+        channel = (channel + 1) % 8;
+    }
+    return channel;
+}
+
+/* The channel octet of a body of this version; a TM body of version 2 has a set: one channel, all, or any. */
+static void any_channels(struct random *random, unsigned version, struct association *association)
+{
+    unsigned greatest = association->kind == 3 ? 7 : 63;
+    association->has_set = version == 2 && association->kind == 3;
+    if (association->has_set) {
+        association->channel = random_percent(random, 40) ? RANDOM_OF(random, 1, 2, 128, 129, 255) : random_between(random, 1, 255);
+    } else {
+        association->channel = random_percent(random, 40) ? greatest : random_below(random, greatest + 1);
+    }
+}
+
+/* The same association at the other end, whose image may have another version: a TM body there serves a channel of this one's. */
+static void meet_channels(struct random *random, unsigned version, struct association *association)
+{
+    if (association->kind != 3 || (association->has_set == (version == 2) && random_percent(random, 75))) {
+        return;
+    }
+    unsigned channel = any_channel(random, association);
+    association->has_set = version == 2;
+    association->channel = association->has_set ? random_below(random, 256) | (1u << channel) : channel;
+}
+
+static void any_association(struct random *random, unsigned version, struct association *association)
 {
     association->service = random_between(random, 1, 2);
     association->kind = random_between(random, 1, 4);
@@ -61,8 +94,7 @@ static void any_association(struct random *random, struct association *associati
     association->spacecraft = random_percent(random, 50) ? RANDOM_OF(random, 0, 1, 255, 256, 511, 512, 1022, 1023)
                                                          : random_below(random, 1024);
     association->spacecraft &= greatest_spacecraft;
-    unsigned greatest_channel = association->kind == 3 ? 7 : 63;
-    association->channel = random_percent(random, 40) ? greatest_channel : random_below(random, greatest_channel + 1);
+    any_channels(random, version, association);
     association->map = association->kind == 2 ? (random_percent(random, 40) ? 63 : random_below(random, 64)) : 0;
     any_key_and_mask(random, association);
     any_own_fields(random, association);
@@ -109,15 +141,18 @@ static void any_numbers(struct random *random, struct end *end, const struct tab
 void make_world(struct random *random, struct world *world, size_t count)
 {
     struct table table;
+    table.version = random_between(random, 1, 2);
     table.count = count;
     for (size_t i = 0; i < count; i++) {
-        any_association(random, &table.entries[i]);
+        any_association(random, table.version, &table.entries[i]);
     }
     any_spis(random, &table);
     set_table(&world->ends[0], &table);
     any_numbers(random, &world->ends[0], &table);
+    table.version = random_percent(random, 75) ? table.version : 3 - table.version;
     for (size_t i = 0; i < count; i++) {
         any_own_fields(random, &table.entries[i]);
+        meet_channels(random, table.version, &table.entries[i]);
         table.entries[i].direction = 3 - table.entries[i].direction;
     }
     set_table(&world->ends[1], &table);
@@ -141,7 +176,7 @@ void change_others(struct random *random, struct input *input, size_t kept)
     }
     for (size_t i = 0; i < table.count; i++) {
         if (i != kept) {
-            any_association(random, &table.entries[i]);
+            any_association(random, table.version, &table.entries[i]);
             input->numbers[i] = 64 * table.entries[i].mark + random_below(random, 64);
         }
     }
@@ -166,7 +201,7 @@ static size_t make_tm_header(struct random *random, const struct association *as
 {
     random_octets(random, frame, 6);
     frame[0] = (uint8_t)(association->spacecraft >> 4);
-    frame[1] = (uint8_t)((association->spacecraft << 4) | (association->channel << 1) | (has_ocf ? 1u : 0u));
+    frame[1] = (uint8_t)((association->spacecraft << 4) | (any_channel(random, association) << 1) | (has_ocf ? 1u : 0u));
     frame[4] &= 0x7F;
     return 6;
 }

@@ -11,7 +11,8 @@ struct end {
     uint32_t numbers[NUMBER_COUNT];
 };
 
-/* Two ends with the same associations, direction 2 for 1; windows, states and marks are each end's own. */
+/* Two ends with the same associations, direction 2 for 1; windows, states and marks are each end's own. Each image is of version 1 or 2;
+ * where the versions differ, and sometimes where they do not, TM associations have other channels there, one of them the same. */
 struct world {
     struct end ends[2];
 };
@@ -30,7 +31,7 @@ void set_number(struct end *end, size_t entry, uint32_t number);
 /* Makes every association but one anew, with the same SPIs and with numbers that agree. The image breaks no rule, before and after. */
 void change_others(struct random *random, struct input *input, size_t kept);
 
-/* A clear frame that matches the association, with this many octets of data, and its length. */
+/* A clear frame that matches the association, of any of its channels, with this many octets of data, and its length. */
 size_t make_clear_frame(struct random *random, const struct association *association, size_t data_length, uint8_t *frame);
 
 /* A number of data octets from 1, such that most secured frames are small and some are around the largest. */

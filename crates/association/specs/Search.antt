@@ -1,11 +1,11 @@
--- Document 01, 'What comes back', answer 4: what a frame and its SPI ask of an entry, and the search, which ends at the first entry that matches.
+-- Document 01, 'What comes back', answer 4, and document 02, request 2: what a frame and its SPI ask of an entry, and the search, which ends at the first entry that matches.
 -- Assumes nothing.
-use Prim.Native.Nat.{ℕ, zero, suc, _+_}
+use Prim.Native.Nat.{ℕ, zero, suc, _+_, _/_, _%_, _^_}
 use mathlib.Core.Bool.{Bool, cond, not, _&&_, _||_}
 use mathlib.Core.List.{List}
-use lib.Dec.{eqb}
+use lib.Dec.{eqb, ltb}
 use Rattle.kinds.specs.Kinds.{hasMap, kindOf}
-use Rattle.bodies.specs.Body.{kindIn, directionOf, stateOf, spacecraftOf, channelOf, mapOf}
+use Rattle.bodies.specs.Body.{kindIn, directionOf, stateOf, spacecraftOf, channelOf, holdsSet, mapOf}
 use Rattle.image.specs.Image.{versionOf, countOf, spiOf, bodyOf}
 use Rattle.association.specs.declared.search.Found.{Found}
 use Rattle.association.specs.declared.search.Found.the-variants as found
@@ -15,8 +15,13 @@ use Rattle.association.specs.declared.search.Wanted.{Wanted}
 abbrev pub operational : ℕ
 operational = 2
 
+-- whether a channel is in a set of eight bits, the lowest for channel 0
+abbrev pub inSet : ℕ → ℕ → Bool
+inSet set channel = ltb channel 8 && eqb (set / 2 ^ channel % 2) 1
+
 abbrev pub servesChannel : ℕ → List ℕ → ℕ → Bool
-servesChannel version body channel = eqb (channelOf body) channel
+servesChannel version body channel =
+    cond (holdsSet version body) (inSet (channelOf body) channel) (eqb (channelOf body) channel)
 
 -- of a kind that has no MAP, any
 abbrev pub servesMap : List ℕ → ℕ → Bool

@@ -1,6 +1,7 @@
-// Document 01, 'What comes back', answer 4: the search of the contents for the entry that serves a frame.
+// Document 01, 'What comes back', answer 4, and document 02, request 2: the search of the contents for the entry that serves a frame.
 use bodies::channel_of;
 use bodies::direction_of;
+use bodies::holds_set;
 use bodies::kind_in;
 use bodies::map_of;
 use bodies::spacecraft_of;
@@ -14,7 +15,7 @@ use kinds::kind_of;
 ghost use mathlib.Core.Path.{_≡_};
 ghost use Rattle.kinds.specs.Kinds.{hasMap, kindOf};
 ghost use Rattle.bodies.specs.Body.{bodyIn};
-ghost use Rattle.association.specs.Search.{servesChannel, servesMap, bodyServes, matches, entryFor};
+ghost use Rattle.association.specs.Search.{inSet, servesChannel, servesMap, bodyServes, matches, entryFor};
 
 // The index of an entry, or none.
 pub enum Found {
@@ -32,10 +33,25 @@ pub struct Wanted {
     pub map: u8,
 }
 
+// Whether a channel is in a set of eight bits, the lowest for channel 0.
+fn in_set(set: u8, channel: u8) -> bool
+    ensures { λ r. ⌜ r ≡ inSet set channel ⌝ }
+{
+    if 8 <= channel {
+        return false;
+    }
+    (set >> channel) % 2 == 1
+}
+
 fn serves_channel(image: &[u8], version: u8, at: u16, channel: u8) -> bool
     ensures { λ r. ⌜ r ≡ servesChannel version (bodyIn (now (image .entry)) version at) channel ⌝ }
 {
-    channel_of(image, version, at) == channel
+    let held = channel_of(image, version, at);
+    if holds_set(image, version, at) {
+        in_set(held, channel)
+    } else {
+        held == channel
+    }
 }
 
 // Whether frames of the kind that a number names have a MAP.

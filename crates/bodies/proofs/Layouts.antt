@@ -3,16 +3,25 @@
 use Prim.Native.Nat.{ℕ, _+_, _*_, _≤_, _<_}
 use native.Mathlib.Nat.{mul-suc, mul-le-mul, mul-le-mul-left}
 use native.Mathlib.Omega.{arith}
-use Rattle.bodies.specs.Layout.{fieldsEnd, mostBody, versionOne, layoutOf, Lawful}
+use mathlib.Core.Bool.{Bool, true, false, cond}
+use lib.Dec.{eqb}
+use Rattle.bodies.specs.Layout.{fieldsEnd, mostBody, versionOne, versionTwo, layoutOf, Lawful}
 
 -- ---- one proof for each version
 
 one-lawful : Lawful versionOne
 one-lawful = record { key = omega arith; mark = omega arith; inside = omega arith; small = omega arith; few = omega arith }
 
+two-lawful : Lawful versionTwo
+two-lawful = record { key = omega arith; mark = omega arith; inside = omega arith; small = omega arith; few = omega arith }
+
 pub lawful : (version : ℕ) → Lawful (layoutOf version)
 unfolding layoutOf
-lawful version = one-lawful
+lawful version = by-version (eqb version 2)
+  where
+    by-version : (two : Bool) → Lawful (cond two versionTwo versionOne)
+    by-version true = two-lawful
+    by-version false = one-lawful
 
 -- ---- over any lawful layout
 

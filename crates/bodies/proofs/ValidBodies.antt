@@ -16,20 +16,21 @@ use Rattle.kinds.specs.Kinds.{Kind, kindIs, kindOf, named}
 use Rattle.kinds.specs.declared.kinds.Kind as code
 use Rattle.kinds.specs.declared.kinds.Named.{Named}
 use Rattle.kinds.specs.declared.kinds.Named.the-variants as naming
-use Rattle.bodies.specs.Body.{serviceOf, kindIn, directionOf, stateOf, spacecraftOf, channelOf, mapOf, windowOf, maskOf, markOf}
-use Rattle.bodies.specs.Body.{kindOk, bodyOk}
+use Rattle.bodies.specs.Body.{serviceOf, kindIn, directionOf, stateOf, spacecraftOf, channelOf, holdsSet, mapOf, windowOf, maskOf, markOf}
+use Rattle.bodies.specs.Body.{channelOk, kindOk, bodyOk}
 use Rattle.bodies.specs.Layout.{maskPlace, maskLength}
 
 -- a mask has six octets
 pub length-mask : (body : List ℕ) → length (maskOf body) ≡ maskLength
 length-mask body = length-part maskPlace maskLength body
 
--- the kind's number names one; spacecraft, virtual channel and MAP are at most what it allows, and the mask covers its header alone
-pub record KindKept (body : List ℕ) : Type 0 where
+-- the kind's number names one; spacecraft, virtual channels and MAP are what it allows, and the mask covers its header alone
+pub record KindKept (version : ℕ) (body : List ℕ) : Type 0 where
   pub number : (1 ≤ kindIn body) × (kindIn body ≤ 4)
   pub isNamed : (k : code.Kind) × (named (kindIn body) ≡ naming.Kind k)
   pub spacecraft : spacecraftOf body ≤ kindOf (kindIn body) .mostSpacecraft
-  pub channel : channelOf body ≤ kindOf (kindIn body) .mostChannel
+  pub channel : holdsSet version body ≡ false → channelOf body ≤ kindOf (kindIn body) .mostChannel
+  pub channels : holdsSet version body ≡ true → 1 ≤ channelOf body
   pub map : mapOf body ≤ kindOf (kindIn body) .mostMap
   pub mask : octet (maskOf body) (kindOf (kindIn body) .underMask) ≡ 0
 
@@ -38,7 +39,7 @@ pub record ValidBody (version : ℕ) (body : List ℕ) : Type 0 where
   pub service : (1 ≤ serviceOf body) × (serviceOf body ≤ 2)
   pub direction : (1 ≤ directionOf body) × (directionOf body ≤ 2)
   pub state : stateOf body ≤ 2
-  pub kind : KindKept body
+  pub kind : KindKept version body
   pub window : (1 ≤ windowOf body) × (windowOf body ≤ 1024)
   pub mark : markOf version body < 2 ^ 26
 
@@ -67,13 +68,15 @@ mask-kept body covered true e passed =
     List·getD-eq-default (maskOf body) 0 (omega (arith, length-mask body, leb-true maskLength covered e))
 mask-kept body covered false e passed = eqb-true (octet (maskOf body) covered) 0 passed
 
-kind-kept : (version : ℕ) (body : List ℕ) (x : Named) → named (kindIn body) ≡ x → kindOk version x body ≡ true → KindKept body
+kind-kept : (version : ℕ) (body : List ℕ) (x : Named) → named (kindIn body) ≡ x → kindOk version x body ≡ true → KindKept version body
 kind-kept version body (naming.Kind k) e passed =
+    let channel-kept : channelOk version (kindIs k) body ≡ true = search (and-left, and-right) in
     record {
       number = named-range (kindIn body) k e;
       isNamed = (k, e);
       spacecraft = rw e (leb-true (spacecraftOf body) (kindIs k .mostSpacecraft) (search (and-left, and-right)));
-      channel = rw e (leb-true (channelOf body) (kindIs k .mostChannel) (search (and-left, and-right)));
+      channel = λ one. rw e (leb-true (channelOf body) (kindIs k .mostChannel) (rw one at channel-kept));
+      channels = λ set. leb-true 1 (channelOf body) (rw set at channel-kept);
       map = rw e (leb-true (mapOf body) (kindIs k .mostMap) (search (and-left, and-right)));
       mask = rw e (mask-kept body (kindIs k .underMask) (leb maskLength (kindIs k .underMask)) refl (search (and-left, and-right)));
     }

@@ -1,8 +1,8 @@
--- Document 01, 'The image': the body of an entry, what its octets hold and what is allowed there. Octets are counted from the body's first.
+-- Document 01, 'The image', and document 02, request 2: the body of an entry, what its octets hold and what is allowed there. Octets are counted from the body's first.
 -- A field whose place, size or rule depends on the image's version is given it.
 -- Assumes nothing.
 use Prim.Native.Nat.{ℕ, _^_}
-use mathlib.Core.Bool.{Bool, false, _&&_, _||_}
+use mathlib.Core.Bool.{Bool, false, cond, _&&_, _||_}
 use mathlib.Core.List.{List}
 use lib.Dec.{eqb, leb, ltb}
 use Rattle.octets.specs.Lists.{octet, part}
@@ -36,8 +36,13 @@ stateOf body = octet body statePlace
 abbrev pub spacecraftOf : List ℕ → ℕ
 spacecraftOf body = numberAt spacecraftPlace 2 body
 
+-- the virtual channel, or a set of them
 abbrev pub channelOf : List ℕ → ℕ
 channelOf body = octet body channelPlace
+
+-- whether it is a set: of a TM body, where the version has sets
+abbrev pub holdsSet : ℕ → List ℕ → Bool
+holdsSet version body = layoutOf version .sets && eqb (kindIn body) 3
 
 abbrev pub mapOf : List ℕ → ℕ
 mapOf body = octet body mapPlace
@@ -65,15 +70,15 @@ directionOk body = leb 1 (directionOf body) && leb (directionOf body) 2
 abbrev pub stateOk : List ℕ → Bool
 stateOk body = leb (stateOf body) 2
 
--- the virtual channel: for a kind of frame, at most what it allows
+-- a set of virtual channels is not empty; one channel is, for a kind of frame, at most what it allows
 abbrev pub channelOk : ℕ → Kind → List ℕ → Bool
-channelOk version kind body = leb (channelOf body) (kind .mostChannel)
+channelOk version kind body = cond (holdsSet version body) (leb 1 (channelOf body)) (leb (channelOf body) (kind .mostChannel))
 
 -- the mask: where it is longer than what it covers of a header, the octet behind that is 0
 abbrev pub maskOk : Kind → List ℕ → Bool
 maskOk kind body = leb maskLength (kind .underMask) || eqb (octet (maskOf body) (kind .underMask)) 0
 
--- the kind's number names one; spacecraft, virtual channel and MAP are at most what it allows, and the mask covers its header alone
+-- the kind's number names one; spacecraft, virtual channels and MAP are what it allows, and the mask covers its header alone
 abbrev pub kindOk : ℕ → Named → List ℕ → Bool
 kindOk version (naming.Kind k) body =
     leb (spacecraftOf body) (kindIs k .mostSpacecraft)

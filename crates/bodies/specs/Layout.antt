@@ -1,8 +1,8 @@
--- Document 01, 'The image': where everything of an image stands. What differs from version to version is one record for each version, and
+-- Document 01, 'The image', and document 02, request 2: where everything of an image stands. What differs from version to version is one record for each version, and
 -- nothing else names its numbers; what every version has stands at the same places in each.
 -- Assumes nothing.
 use Prim.Native.Nat.{ℕ, _+_, _≤_}
-use mathlib.Core.Bool.{Bool}
+use mathlib.Core.Bool.{Bool, true, false, cond}
 use lib.Dec.{eqb}
 use Rattle.marks.specs.Gray.{codeLength}
 use Rattle.bodies.specs.declared.layout.Layout.{Layout}
@@ -48,13 +48,17 @@ fieldsEnd = 16
 abbrev pub keyLength : ℕ
 keyLength = 32
 
--- the version's number; the octets of a body, and where in it key and mark stand; the entries that the contents have beyond the count
+-- the version's number; the octets of a body, and where in it key and mark stand; the entries that the contents have beyond the count; and
+-- whether a TM body holds a set of channels in place of one
 abbrev pub versionOne : Layout
-versionOne = record { version = 1; body = 52; key = 16; mark = 48; extra = 0 }
+versionOne = record { version = 1; body = 52; key = 16; mark = 48; extra = 0; sets = false }
+
+abbrev pub versionTwo : Layout
+versionTwo = record { version = 2; body = 52; key = 16; mark = 48; extra = 0; sets = true }
 
 -- the layout by which an image is read: its version's, and for an image of no version that there is, version 1's
 unfoldable pub layoutOf : ℕ → Layout
-layoutOf version = versionOne
+layoutOf version = cond (eqb version 2) versionTwo versionOne
 
 -- there is a version if it has a layout of its own
 abbrev pub versionOk : ℕ → Bool

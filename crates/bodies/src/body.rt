@@ -1,4 +1,4 @@
-// Document 01, 'The image': the body of an entry, what its octets hold and what is allowed there.
+// Document 01, 'The image', and document 02, request 2: the body of an entry, what its octets hold and what is allowed there.
 use crate::layout::CHANNEL;
 use crate::layout::DIRECTION;
 use crate::layout::KIND;
@@ -22,7 +22,7 @@ ghost use Prim.Native.Nat.{_+_, _<_, _≤_};
 ghost use Rattle.octets.specs.Lists.{octet};
 ghost use Rattle.octets.specs.Numbers.{numberAt};
 ghost use Rattle.kinds.specs.Kinds.{kindIs, named};
-ghost use Rattle.bodies.specs.Body.{bodyIn, serviceOf, kindIn, directionOf, stateOf, spacecraftOf, channelOf, mapOf, windowOf, maskOf, codeOf};
+ghost use Rattle.bodies.specs.Body.{bodyIn, serviceOf, kindIn, directionOf, stateOf, spacecraftOf, channelOf, holdsSet, mapOf, windowOf, maskOf, codeOf};
 ghost use Rattle.bodies.specs.Body.{serviceOk, directionOk, stateOk, channelOk, maskOk, kindOk, windowOk, markOk, bodyOk};
 ghost use Rattle.bodies.specs.Layout.{fieldsEnd};
 
@@ -72,10 +72,18 @@ pub fn spacecraft_of(image: &[u8], version: u8, at: u16) -> u16
     body_two(image, version, at, SPACECRAFT)
 }
 
+// The virtual channel, or a set of them.
 pub fn channel_of(image: &[u8], version: u8, at: u16) -> u8
     ensures { λ r. ⌜ r ≡ channelOf (bodyIn (now (image .entry)) version at) ⌝ }
 {
     body_octet(image, version, at, CHANNEL)
+}
+
+// Whether it is a set: of a TM body, where the version has sets.
+pub fn holds_set(image: &[u8], version: u8, at: u16) -> bool
+    ensures { λ r. ⌜ r ≡ holdsSet version (bodyIn (now (image .entry)) version at) ⌝ }
+{
+    layout_of(version).sets & (kind_in(image, version, at) == 3)
 }
 
 pub fn map_of(image: &[u8], version: u8, at: u16) -> u8
@@ -125,10 +133,16 @@ fn state_ok(image: &[u8], version: u8, at: u16) -> bool
     state_of(image, version, at) <= 2
 }
 
+// A set is not empty; one channel is at most what the kind allows.
 fn channel_ok(image: &[u8], kind: Kind, version: u8, at: u16) -> bool
     ensures { λ r. ⌜ r ≡ channelOk version (kindIs kind) (bodyIn (now (image .entry)) version at) ⌝ }
 {
-    channel_of(image, version, at) <= kind.most_channel()
+    let channel = channel_of(image, version, at);
+    if holds_set(image, version, at) {
+        1 <= channel
+    } else {
+        channel <= kind.most_channel()
+    }
 }
 
 // Where the mask is longer than what it covers of a header, the octet behind that is 0.
@@ -140,7 +154,7 @@ fn mask_ok(image: &[u8], kind: Kind, version: u8, at: u16) -> bool
     (MASK_LENGTH <= covered) | (octet_at(&mask, covered) == 0)
 }
 
-// Spacecraft, virtual channel and MAP are at most what the kind allows, and the mask covers its header alone.
+// Spacecraft, virtual channels and MAP are what the kind allows, and the mask covers its header alone.
 fn kind_kept(image: &[u8], kind: Kind, version: u8, at: u16) -> bool
     ensures { λ r. ⌜ r ≡ kindOk version (Named.Kind kind) (bodyIn (now (image .entry)) version at) ⌝ }
 {

@@ -31,18 +31,31 @@ pub struct Layout {
     pub mark: u8,
     // The entries that the contents have beyond the count.
     pub extra: u8,
+    // Whether a TM body holds a set of channels in place of one.
+    pub sets: bool,
 }
 
 // The layout of a version; another number is read as version 1 is, and is not the number of that layout.
 pub fn layout_of(version: u8) -> Layout
     ensures { λ r. ⌜ (r ≡ layoutOf version) × Lawful r ⌝ }
 {
+    if version == 2 {
+        return Layout {
+            version: 2,
+            body: 52,
+            key: 16,
+            mark: 48,
+            extra: 0,
+            sets: true,
+        };
+    }
     Layout {
         version: 1,
         body: 52,
         key: 16,
         mark: 48,
         extra: 0,
+        sets: false,
     }
 }
 

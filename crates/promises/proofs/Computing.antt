@@ -23,7 +23,7 @@ use Rattle.protection.specs.Protection.{securedFrame, fieldIn, textIn, numberIn
 use Rattle.link.specs.Replies.{seen, securingTests, securing, checkingTests, checking}
 use Rattle.protection.specs.Services.{service}
 use Rattle.promises.specs.Forms.{formOf}
-use Rattle.promises.specs.Cases.{imageOf, securedC, clearTc, room}
+use Rattle.promises.specs.Cases.{imageWith, securedC, clearTc, room}
 
 unfoldable pub octets : Unit {0}
 unfolding trailingZeros tab part all number bytes same
@@ -56,7 +56,7 @@ calls = tt
 
 -- what the cases speak of
 unfoldable pub examples : Unit {0}
-unfolding imageOf securedC clearTc room
+unfolding imageWith securedC clearTc room
 examples = tt
 
 unfoldable pub everything : Unit {0}

@@ -78,8 +78,7 @@ module _ (s l t r : List ℕ) (here : Standing s l) (there : Standing t r) (dire
 
   same-match : SameEntry s l t r direction said spi frame → matching s l w ≡ matching t r w
   unfolding associationOf
-  same-match (both i j a b body number) =
-      let version = here .valid .version ∙ sym (there .valid .version) in
+  same-match (both i j a b version body number) =
       let bodies = body-is s i ∙ body ∙ sym (body-is t j) in
       let keys = key-body s i ∙ ap₂ (λ (v : ℕ) (b : List ℕ). part (layoutOf v .key) keyLength b) version bodies ∙ sym (key-body t j) in
       let same : associationOf s l i ≡ associationOf t r j = cc in

@@ -15,6 +15,7 @@ pub mod Runs
 pub mod Sent
 pub mod Stored
 pub mod Unmarked
+pub mod Upgrade
 pub mod Used
 pub mod Valids
 pub mod Witness

@@ -35,7 +35,8 @@ use Rattle.promises.proofs.Valids.{rules-valid, agreement-tested, serve
 
 -- ---- the two associations hold the same service, mask and key
 
-module _ (here sendNumbers there numbers : List ℕ) (e i : ℕ) (other : OtherEnd here e there numbers i) where
+module _ (here sendNumbers there numbers : List ℕ) (e i : ℕ) (said : Said) (frame : List ℕ)
+    (other : OtherEnd said frame here e there numbers i) where
   abbrev h : Held
   h = heldIn (associationOf here sendNumbers e)
 
@@ -94,7 +95,7 @@ module _ (there numbers : List ℕ) (octets : Octets there) (said : Said) (spi n
         directions = serves .directions;
         kinds = serves .kinds;
         spacecraft = serves .spacecraft ∙ form said .spacecraft frame ∙ sym (form said .spacecraft S ∙ kept .spacecraft);
-        channel = serves .channel ∙ form said .channel frame ∙ sym (form said .channel S ∙ kept .channel);
+        channel = rw (form said .channel S ∙ kept .channel ∙ sym (form said .channel frame)) (serves .channel);
         map = λ e. serves .map e ∙ form said .map frame ∙ sym (form said .map S ∙ kept .map);
       }
 
@@ -179,7 +180,7 @@ round-trip = record { released = both-ends }
         x .answer ≡ 0
         → e < countIn here
         → spiAt here e ≡ spi
-        → OtherEnd here e there numbers i
+        → OtherEnd said frame here e there numbers i
         → InWindow (lastAt numbers i) (windowAt there i) (words.numberOn (serviceAt here e) said (handed x))
         → length (words.dataInClear said frame) ≤ length output
         → Released (words.dataInClear said frame) (checked there numbers said (handed x) output)
@@ -189,7 +190,7 @@ round-trip = record { released = both-ends }
         let n = lastAt sendNumbers e + 1 in
         let h = heldIn (associationOf here sendNumbers e) in
         let g = heldIn (associationOf there numbers i) in
-        let services = same-service here sendNumbers there numbers e i other in
+        let services = same-service here sendNumbers there numbers e i said frame other in
         let fits : securedLength g frame ≤ kindSaid said .largest =
         rw services (sent.fits here sendNumbers said spi frame sendOutput e below spis done-so)
         in
@@ -198,8 +199,8 @@ round-trip = record { released = both-ends }
         in
         let out : handed (secured here sendNumbers said spi frame sendOutput) ≡ securedFrame g (kindSaid said) spi n frame =
         sent.out here sendNumbers said spi frame sendOutput e below spis done-so
-        ∙ wire.alike-frame h g (kindSaid said) spi n frame services (same-mask here sendNumbers there numbers e i other)
-        (same-key here sendNumbers there numbers e i other)
+        ∙ wire.alike-frame h g (kindSaid said) spi n frame services (same-mask here sendNumbers there numbers e i said frame other)
+        (same-key here sendNumbers there numbers e i said frame other)
         in
         let serves : Serves there 2 said spi frame i =
         record {
@@ -209,7 +210,7 @@ round-trip = record { released = both-ends }
           directions = other .direction;
           kinds = other .kind ∙ s .kinds;
           spacecraft = other .spacecraft ∙ s .spacecraft;
-          channel = other .channel ∙ s .channel;
+          channel = other .channel;
           map = λ two. other .map ∙ s .map two;
         }
         in

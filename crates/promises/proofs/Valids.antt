@@ -1,26 +1,27 @@
 -- The rules of an image, one by one, are the test that the definitions make, and so are agreement and the entry that serves a frame. Each
 -- is shown both ways.
 -- Assumes nothing.
-use Prim.Native.Nat.{ℕ, zero, suc, _-_, _/_, _^_, _≤_, _<_}
+use Prim.Native.Nat.{ℕ, zero, suc, _-_, _/_, _%_, _^_, _≤_, _<_}
 use mathlib.Core.Path.{_≡_, refl, sym, ap, ap₂, _∙_}
-use mathlib.Core.Bool.{Bool, true, false, not, _&&_, _||_}
+use mathlib.Core.Bool.{Bool, true, false, not, cond, _&&_, _||_}
 use mathlib.Core.List.{List}
 use native.Mathlib.Nat.{add-zero}
 use native.Mathlib.Omega.{arith}
-use borrow.Author.Tests.{eqb-true, eq-eqb, ne-eqb, le-leb, lt-ltb}
+use borrow.Author.Tests.{eqb-true, ltb-true, eq-eqb, ne-eqb, le-leb, lt-ltb}
 use lib.Dec.{eqb, leb, eqb·suc-zero}
 use lib.ListN.{length}
 use Rattle.octets.specs.Lists.{octet, Octets}
 use Rattle.octets.proofs.Alls.{and-left, and-right, all-every}
 use Rattle.octets.proofs.Numbers.{numberAt-lt}
 use Rattle.kinds.specs.Kinds.{hasMap, kindOf, named}
-use Rattle.bodies.specs.Body.{serviceOf, kindIn, directionOf, stateOf, spacecraftOf, channelOf, mapOf, windowOf, maskOf, kindOk, bodyOk}
+use Rattle.bodies.specs.Body.{serviceOf, kindIn, directionOf, stateOf, spacecraftOf, channelOf, holdsSet, mapOf, windowOf, maskOf}
+use Rattle.bodies.specs.Body.{channelOk, kindOk, bodyOk}
 use Rattle.marks.specs.Gray.{gray, ungray}
 use Rattle.image.specs.Image.{versionOf, countOf, spiOf, spiBefore, positionOf, bodyAt, bodyOf, imageSize, laidOut, entryOk, validImage}
-use Rattle.bodies.specs.Layout.{layoutOf}
+use Rattle.bodies.specs.Layout.{layoutOf, versionOk}
 use Rattle.image.specs.Image.{markIn}
 use Rattle.association.specs.Numbers.{agrees}
-use Rattle.association.specs.Search.{bodyServes, matches}
+use Rattle.association.specs.Search.{inSet, servesChannel, bodyServes, matches}
 use Rattle.association.specs.declared.search.Wanted.{Wanted}
 use Rattle.marks.proofs.GrayCode.{gray-lt, gray-below, gray-ungray, ungray-gray}
 use Rattle.association.proofs.LoadedNumbers.{agreed, agreeing}
@@ -29,9 +30,9 @@ use Rattle.image.proofs.ValidImages.{Valid, valid, spi-rises}
 use Rattle.link.specs.Calls.{wanted}
 use Rattle.link.specs.Said.{Said, kindSaid}
 use Rattle.promises.specs.Forms.{formOf}
-use Rattle.promises.specs.Images.{place, codeAt, lastAt, BodyRules, ImageRules, Agreeing, Serves}
+use Rattle.promises.specs.Images.{place, codeAt, lastAt, ServesChannel, BodyRules, ImageRules, Agreeing, Serves}
 use Rattle.promises.proofs.Fields.{service-at, kind-at, direction-at, state-at, spacecraft-at, channel-at, map-at, window-at}
-use Rattle.promises.proofs.Fields.{stands, last-mask-at, mark-is}
+use Rattle.promises.proofs.Fields.{Places, places, stands, last-mask-at, mark-is, set-at}
 use Rattle.promises.proofs.Forms.{Describes, described}
 use Rattle.promises.proofs.Readings.{form}
 
@@ -67,6 +68,25 @@ has-map (suc (suc (suc (suc (suc n))))) =
     let other : ℕ = suc (suc (suc (suc (suc n)))) in
     simp (ne-eqb other 1 (omega arith), ne-eqb other 2 (omega arith), ne-eqb other 3 (omega arith), ne-eqb other 4 (omega arith))
 
+-- ---- the versions that there are
+
+known : (version : ℕ) → versionOk version ≡ true → (1 ≤ version) × (version ≤ 2)
+unfolding layoutOf
+known zero e = let z : _≡_ {A = ℕ} 0 1 = cc in absurd (omega arith)
+known (suc zero) e = (omega arith, omega arith)
+known (suc (suc zero)) e = (omega arith, omega arith)
+known (suc (suc (suc n))) e =
+    let other : ℕ = suc (suc (suc n)) in
+    let same : other ≡ 1 = eqb-true other 1 (rw (ne-eqb other 2 (omega arith)) at e) in
+    absurd (omega arith)
+
+version-ok : (version : ℕ) → (1 ≤ version) × (version ≤ 2) → versionOk version ≡ true
+unfolding layoutOf
+version-ok zero h = absurd (omega arith)
+version-ok (suc zero) h = refl
+version-ok (suc (suc zero)) h = refl
+version-ok (suc (suc (suc n))) h = absurd (omega arith)
+
 -- ---- a valid image obeys the rules
 
 module _ (image : List ℕ) (octets : Octets image) where
@@ -82,7 +102,8 @@ module _ (image : List ℕ) (octets : Octets image) where
         direction = rw (← direction-at image i) (b .direction);
         state = rw (← state-at image i) (b .state);
         spacecraft = rw (← spacecraft-at image i, ← kinds, f .mostSpacecraft) (a .spacecraft);
-        channel = rw (← channel-at image i, ← kinds, f .mostChannel) (a .channel);
+        channel = λ one. rw (← channel-at image i, ← kinds, f .mostChannel) (a .channel (set-at image i ∙ one));
+        channels = λ set. rw (← channel-at image i) (a .channels (set-at image i ∙ set));
         map = rw (← map-at image i, ← kinds, f .mostMap) (a .map);
         window = rw (← window-at image i) (b .window);
         mask = λ tc. sym (last-mask-at image i) ∙ (rw (mask-of-tc (kindIn (bodyOf image i)) (kinds ∙ tc)) at (a .mask));
@@ -90,13 +111,14 @@ module _ (image : List ℕ) (octets : Octets image) where
       }
 
   pub rules-kept : validImage image ≡ true → ImageRules image
-  unfolding imageSize layoutOf
+  unfolding imageSize
   rules-kept passed =
       let v : Valid image = valid image passed in
+      let p = places (versionOf image) in
       record {
-        version = eqb-true (versionOf image) 1 (v .laid .version);
+        version = known (versionOf image) (v .laid .version);
         count = v .laid .count;
-        size = omega (arith, v .laid .size);
+        size = v .laid .size ∙ rw (p .body, p .extra) (omega arith);
         spi = λ i h. v .entry i h .spi;
         rising = spi-rises image v;
         position = λ i h. v .entry i h .position ∙ sym (add-zero (bodyAt image i)) ∙ stands image i 0;
@@ -116,19 +138,24 @@ implies : (a b : Bool) → (not a || b) ≡ true → a ≡ true → b ≡ true
 implies true b h e = h
 implies false b h e = let z : _≡_ {A = ℕ} 0 1 = cc in absurd (omega arith)
 
+-- a test of two, chosen by a third
+chosen : (t a b : Bool) → (t ≡ true → a ≡ true) → (t ≡ false → b ≡ true) → cond t a b ≡ true
+chosen true a b f g = f refl
+chosen false a b f g = g refl
+
 kind-ok : (version number : ℕ) (body : List ℕ) → (1 ≤ number) × (number ≤ 4) → spacecraftOf body ≤ kindOf number .mostSpacecraft
-    → channelOf body ≤ kindOf number .mostChannel → mapOf body ≤ kindOf number .mostMap
+    → channelOk version (kindOf number) body ≡ true → mapOf body ≤ kindOf number .mostMap
     → (number ≡ 1 → octet (maskOf body) 5 ≡ 0) → kindOk version (named number) body ≡ true
 unfolding named
 kind-ok version zero body h s c m k = absurd (omega arith)
 kind-ok version (suc zero) body h s c m k =
-    ap₂ _&&_ (ap₂ _&&_ (ap₂ _&&_ (le-leb _ _ s) (le-leb _ _ c)) (le-leb _ _ m)) (eq-eqb (octet (maskOf body) 5) 0 (k refl))
+    ap₂ _&&_ (ap₂ _&&_ (ap₂ _&&_ (le-leb _ _ s) c) (le-leb _ _ m)) (eq-eqb (octet (maskOf body) 5) 0 (k refl))
 kind-ok version (suc (suc zero)) body h s c m k =
-    ap₂ _&&_ (ap₂ _&&_ (ap₂ _&&_ (le-leb _ _ s) (le-leb _ _ c)) (le-leb _ _ m)) refl
+    ap₂ _&&_ (ap₂ _&&_ (ap₂ _&&_ (le-leb _ _ s) c) (le-leb _ _ m)) refl
 kind-ok version (suc (suc (suc zero))) body h s c m k =
-    ap₂ _&&_ (ap₂ _&&_ (ap₂ _&&_ (le-leb _ _ s) (le-leb _ _ c)) (le-leb _ _ m)) refl
+    ap₂ _&&_ (ap₂ _&&_ (ap₂ _&&_ (le-leb _ _ s) c) (le-leb _ _ m)) refl
 kind-ok version (suc (suc (suc (suc zero)))) body h s c m k =
-    ap₂ _&&_ (ap₂ _&&_ (ap₂ _&&_ (le-leb _ _ s) (le-leb _ _ c)) (le-leb _ _ m)) refl
+    ap₂ _&&_ (ap₂ _&&_ (ap₂ _&&_ (le-leb _ _ s) c) (le-leb _ _ m)) refl
 kind-ok version (suc (suc (suc (suc (suc n))))) body h s c m k = absurd (omega arith)
 
 module _ (image : List ℕ) (octets : Octets image) (rules : ImageRules image) where
@@ -142,6 +169,14 @@ module _ (image : List ℕ) (octets : Octets image) (rules : ImageRules image) w
     mark-fits : markIn image i < 2 ^ 26
     mark-fits = gray-below 26 (markIn image i) (rw (code-of-mark image octets i) at (b .mark))
 
+    channel-ok : channelOk (versionOf image) (kindOf (kindIn body)) body ≡ true
+    channel-ok =
+        chosen (holdsSet (versionOf image) body) (leb 1 (channelOf body)) (leb (channelOf body) (kindOf (kindIn body) .mostChannel))
+        (λ set. le-leb 1 (channelOf body) (rw (channel-at image i) (b .channels (sym (set-at image i) ∙ set))))
+        (λ one.
+        le-leb (channelOf body) (kindOf (kindIn body) .mostChannel)
+        (rw (channel-at image i, ← limits .mostChannel, kind-at image i) (b .channel (sym (set-at image i) ∙ one))))
+
     body-ok : bodyOk (versionOf image) body ≡ true
     unfolding bodyOk markIn
     body-ok =
@@ -154,7 +189,7 @@ module _ (image : List ℕ) (octets : Octets image) (rules : ImageRules image) w
         (le-leb (stateOf body) 2 (rw (state-at image i) (b .state))))
         (kind-ok (versionOf image) (kindIn body) body (rw (kind-at image i) (b .kind))
         (rw (spacecraft-at image i, ← limits .mostSpacecraft, kind-at image i) (b .spacecraft))
-        (rw (channel-at image i, ← limits .mostChannel, kind-at image i) (b .channel))
+        channel-ok
         (rw (map-at image i, ← limits .mostMap, kind-at image i) (b .map))
         (λ e. last-mask-at image i ∙ b .mask (sym (kind-at image i) ∙ e))))
         (between 1 (windowOf body) 1024 (rw (window-at image i) (b .window))))
@@ -172,10 +207,11 @@ module _ (image : List ℕ) (octets : Octets image) (rules : ImageRules image) w
       (eq-eqb (positionOf image i) (bodyAt image i) (rules .position i h ∙ sym (stands image i 0) ∙ add-zero (bodyAt image i)))
 
   laid-ok : laidOut image ≡ true
-  unfolding laidOut imageSize layoutOf
+  unfolding laidOut imageSize
   laid-ok =
-      ap₂ _&&_ (ap₂ _&&_ (eq-eqb (versionOf image) 1 (rules .version)) (le-leb (countOf image) 32 (rules .count)))
-      (eq-eqb (length image) _ (omega (arith, rules .size)))
+      let p = places (versionOf image) in
+      ap₂ _&&_ (ap₂ _&&_ (version-ok (versionOf image) (rules .version)) (le-leb (countOf image) 32 (rules .count)))
+      (eq-eqb (length image) _ (rules .size ∙ rw (p .body, p .extra) (omega arith)))
 
   pub rules-valid : validImage image ≡ true
   unfolding validImage
@@ -195,6 +231,28 @@ module _ (image numbers : List ℕ) (octets : Octets image) where
 
 -- ---- the entry that serves a frame
 
+-- its channels
+module _ (image : List ℕ) (i : ℕ) where
+  pub channel-served : (channel : ℕ) → servesChannel (versionOf image) (bodyOf image i) channel ≡ true → ServesChannel image i channel
+  channel-served channel e =
+      record {
+        one = λ one. sym (channel-at image i) ∙ eqb-true (channelOf (bodyOf image i)) channel (rw (set-at image i ∙ one) at e);
+        set = λ set.
+            let held : inSet (channelOf (bodyOf image i)) channel ≡ true = rw (set-at image i ∙ set) at e in (
+              ltb-true channel 8 (search and-left),
+              rw (← channel-at image i) (eqb-true (channelOf (bodyOf image i) / 2 ^ channel % 2) 1 (search and-right)),
+            );
+      }
+
+  serves-channel : (channel : ℕ) → ServesChannel image i channel → servesChannel (versionOf image) (bodyOf image i) channel ≡ true
+  serves-channel channel s =
+      let body = bodyOf image i in
+      chosen (holdsSet (versionOf image) body) (inSet (channelOf body) channel) (eqb (channelOf body) channel)
+      (λ set.
+      let h = s .set (sym (set-at image i) ∙ set) in
+      ap₂ _&&_ (lt-ltb channel 8 (h .0)) (eq-eqb (channelOf body / 2 ^ channel % 2) 1 (rw (channel-at image i) (h .1))))
+      (λ one. eq-eqb (channelOf body) channel (channel-at image i ∙ s .one (sym (set-at image i) ∙ one)))
+
 module _ (image : List ℕ) (direction : ℕ) (said : Said) (spi : ℕ) (frame : List ℕ) (i : ℕ) where
   abbrev w : Wanted
   w = wanted spi direction said frame
@@ -213,10 +271,7 @@ module _ (image : List ℕ) (direction : ℕ) (said : Said) (spi : ℕ) (frame :
             sym (spacecraft-at image i)
             ∙ eqb-true (spacecraftOf body) (kindSaid said .spacecraft frame) (search (and-left, and-right))
             ∙ sym (form said .spacecraft frame);
-        channel =
-            sym (channel-at image i)
-            ∙ eqb-true (channelOf body) (kindSaid said .channel frame) (search (and-left, and-right))
-            ∙ sym (form said .channel frame);
+        channel = rw (form said .channel frame) (channel-served image i (kindSaid said .channel frame) (search (and-left, and-right)));
         map = λ e2.
             sym (map-at image i)
             ∙ eqb-true (mapOf body) (kindSaid said .map frame)
@@ -238,7 +293,7 @@ module _ (image : List ℕ) (direction : ℕ) (said : Said) (spi : ℕ) (frame :
       (eq-eqb (directionOf body) direction (direction-at image i ∙ s .directions)))
       (eq-eqb (kindIn body) (said .kind) (kind-at image i ∙ s .kinds)))
       (eq-eqb (spacecraftOf body) (kindSaid said .spacecraft frame) (spacecraft-at image i ∙ s .spacecraft ∙ form said .spacecraft frame)))
-      (eq-eqb (channelOf body) (kindSaid said .channel frame) (channel-at image i ∙ s .channel ∙ form said .channel frame)))
+      (serves-channel image i (kindSaid said .channel frame) (rw (form said .channel frame) at (s .channel))))
       (implied (hasMap (kindOf (kindIn body))) (eqb (mapOf body) (kindSaid said .map frame))
       (λ e2.
       eq-eqb (mapOf body) (kindSaid said .map frame)

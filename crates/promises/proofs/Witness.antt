@@ -1,34 +1,38 @@
 -- The promises are not empty. Under both services and every kind there are two ends that meet the conditions of the round trip; every
--- answer but 9 is given; runs send and release; and two images of different projects share an entry, or have none for a frame. All of it
+-- answer but 9 is given; runs send and release; the same with TM associations of two channels, in version 2; and two images of different projects share an entry, or have none for a frame. All of it
 -- by computing.
 -- Assumes nothing.
 use Prim.Native.Nat.{ℕ, _+_, _<_}
-use mathlib.Core.Path.{_≡_, refl}
+use mathlib.Core.Path.{_≡_, refl, _∙_}
 use mathlib.Core.Bool.{Bool, true, false, _&&_}
 use mathlib.Core.List.{List, [], _∷_, _++_}
 use native.Mathlib.Omega.{arith}
 use borrow.Author.Tests.{eqb-true, leb-true, ltb-true}
 use lib.Dec.{eqb, leb, ltb, lit<}
-use lib.ListN.{length, replicate}
+use lib.ListN.{length, replicate, set}
+use lib.Seq.{getD-set-other}
 use Rattle.octets.specs.Lists.{Octets, tab, part}
 use Rattle.octets.specs.Numbers.{number, bytes}
 use Rattle.octets.proofs.Alls.{and-left, and-right}
 use Rattle.octets.proofs.Bounds.{octets-nil, octets-cons}
-use Rattle.image.specs.Image.{validImage}
+use Rattle.image.specs.Image.{bodyOf, validImage}
 use Rattle.association.specs.Numbers.{agrees}
+use Rattle.association.specs.Search.{servesChannel}
 use Rattle.link.specs.Calls.{handed, loaded, secured, checkedAs, checked}
 use Rattle.protection.specs.Services.{service}
-use Rattle.link.specs.Said.{Said, saying}
-use Rattle.promises.specs.Cases.{allTrue, imageOf, oneNumber, frameC, frameSent, securedC, clearTc, room, imageB, receiver, sender}
+use Rattle.link.specs.Said.{Said, saying, kindSaid}
+use Rattle.promises.specs.Cases.{allTrue, imageWith, imageOf, oneNumber, frameC, frameSent, securedC, clearTc, room, imageB, receiver, sender}
 use Rattle.promises.specs.Frames.{dataInClear, spiOn, numberOn}
 use Rattle.promises.specs.Isolation.{Standing, both, neither, SameAnswer}
 use Rattle.promises.specs.RoundTrip.{Released}
 use Rattle.promises.specs.Runs.{Shown, load, send, check, sendCut, after, trace, shows, restart, sent, released, shownOf}
+use Rattle.promises.specs.Upgrade.{Upgraded}
 use Rattle.promises.proofs.Answers.{nobody}
 use Rattle.promises.proofs.Computing.{everything}
 use Rattle.promises.proofs.Isolation.{isolation}
 use Rattle.promises.proofs.RoundTrip.{round-trip}
-use Rattle.promises.proofs.Valids.{rules-kept, agreement, serving}
+use Rattle.promises.proofs.Readings.{form}
+use Rattle.promises.proofs.Valids.{rules-kept, agreement, channel-served, serving}
 
 abbrev areOctets : List ℕ → Bool
 areOctets [] = true
@@ -39,30 +43,31 @@ octets-of [] e = octets-nil
 octets-of (x ∷ xs) e =
     octets-cons x xs (ltb-true x 256 (and-left (ltb x 256) (areOctets xs) e)) (octets-of xs (and-right (ltb x 256) (areOctets xs) e))
 
--- ---- the round trip, under any service and any kind
+-- ---- the round trip, under any service and any kind, between images of any two versions with any two channel octets
 
-module _ (service : ℕ) (said : Said) (frame : List ℕ) where
+module _ (fromVersion fromChannel toVersion toChannel service : ℕ) (said : Said) (frame : List ℕ) where
   abbrev here : List ℕ
-  here = imageOf service (said .kind) 1 100 0
+  here = imageWith fromVersion fromChannel service (said .kind) 1 100 0
 
   abbrev there : List ℕ
-  there = imageOf service (said .kind) 2 100 0
+  there = imageWith toVersion toChannel service (said .kind) 2 100 0
 
   abbrev out : List ℕ
   out = handed (secured here (oneNumber 63) said 9 frame room)
 
-  -- what has to be computed: valid ends, an answer 0, a number in the window and room for the data
+  -- what has to be computed: valid ends, an answer 0, the channel served, a number in the window and room for the data
   abbrev meets : Bool
   meets =
       areOctets there
       && validImage there
       && agrees there (oneNumber 63)
       && eqb (secured here (oneNumber 63) said 9 frame room .answer) 0
+      && servesChannel toVersion (bodyOf there 0) (kindSaid said .channel frame)
       && eqb (numberOn service said out) 64
       && leb (length (dataInClear said frame)) (length room)
 
   pub released-there : meets ≡ true → Released (dataInClear said frame) (checked there (oneNumber 63) said out room)
-  unfolding imageOf tab part number bytes
+  unfolding imageWith tab part number bytes
   released-there e =
       let octets = octets-of there (search (and-left, and-right)) in
       let done-so = eqb-true (secured here (oneNumber 63) said 9 frame room .answer) 0 (search (and-left, and-right)) in
@@ -78,7 +83,7 @@ module _ (service : ℕ) (said : Said) (frame : List ℕ) where
         key = refl;
         mask = refl;
         spacecraft = refl;
-        channel = refl;
+        channel = rw (form said .channel frame) (channel-served there 0 (kindSaid said .channel frame) (search (and-left, and-right)));
         map = refl;
         direction = refl;
         state = refl;
@@ -99,22 +104,49 @@ ocfFrame = 0x01 ∷ 0xBB ∷ 0x00 ∷ 0x00 ∷ 0x00 ∷ 0x00 ∷ 0xAA ∷ 0x01 �
 abbrev aosFrame : List ℕ
 aosFrame = 0x46 ∷ 0xC5 ∷ 0x00 ∷ 0x00 ∷ 0x00 ∷ 0x00 ∷ 0xAA ∷ []
 
+-- TM of channel 1
+abbrev otherFrame : List ℕ
+otherFrame = 0x01 ∷ 0xB2 ∷ 0x00 ∷ 0x00 ∷ 0x00 ∷ 0x00 ∷ 0xBB ∷ []
+
+-- two ends of version 1, whose channel is 5
+abbrev meetsOne : ℕ → Said → List ℕ → Bool
+meetsOne service said frame = meets 1 5 1 5 service said frame
+
 pub conditions-met :
     allTrue
-    (meets 1 (saying 1) frameC
-    ∷ meets 2 (saying 1) frameC
-    ∷ meets 1 (saying 2) segmentedFrame
-    ∷ meets 2 (saying 2) segmentedFrame
-    ∷ meets 1 (saying 3) tmFrame
-    ∷ meets 2 (saying 3) tmFrame
-    ∷ meets 1 (saying 3) ocfFrame
-    ∷ meets 2 (saying 3) ocfFrame
-    ∷ meets 1 (saying 4) aosFrame
-    ∷ meets 2 (saying 4) aosFrame
+    (meetsOne 1 (saying 1) frameC
+    ∷ meetsOne 2 (saying 1) frameC
+    ∷ meetsOne 1 (saying 2) segmentedFrame
+    ∷ meetsOne 2 (saying 2) segmentedFrame
+    ∷ meetsOne 1 (saying 3) tmFrame
+    ∷ meetsOne 2 (saying 3) tmFrame
+    ∷ meetsOne 1 (saying 3) ocfFrame
+    ∷ meetsOne 2 (saying 3) ocfFrame
+    ∷ meetsOne 1 (saying 4) aosFrame
+    ∷ meetsOne 2 (saying 4) aosFrame
     ∷ [])
     ≡ true
 unfolding everything
 conditions-met = refl
+
+-- in version 2 an octet 0x22 of TM is the set of channels 1 and 5; of TC and AOS the octet is a channel. The other end may have the same set,
+-- another one that has the frame's channel, or version 1 and that channel
+pub conditions-met-by-sets :
+    allTrue
+    (meets 2 0x22 2 0x22 1 (saying 3) tmFrame
+    ∷ meets 2 0x22 2 0x22 2 (saying 3) tmFrame
+    ∷ meets 2 0x22 2 0x22 1 (saying 3) otherFrame
+    ∷ meets 2 0x22 2 0x22 2 (saying 3) otherFrame
+    ∷ meets 2 0x22 2 0x82 1 (saying 3) otherFrame
+    ∷ meets 2 0x22 1 5 1 (saying 3) tmFrame
+    ∷ meets 1 5 2 0x22 2 (saying 3) ocfFrame
+    ∷ meets 2 5 2 5 1 (saying 1) frameC
+    ∷ meets 2 5 1 5 1 (saying 2) segmentedFrame
+    ∷ meets 2 5 2 5 2 (saying 4) aosFrame
+    ∷ [])
+    ≡ true
+unfolding everything
+conditions-met-by-sets = refl
 
 -- ---- every answer but 9
 
@@ -125,6 +157,9 @@ pub answers-given :
     ∷ eqb (frameSent imageB 64 .answer) 2
     ∷ eqb (secured imageB (oneNumber 63) (saying 5) 9 frameC room .answer) 3
     ∷ eqb (secured imageB (oneNumber 63) (saying 1) 8 frameC room .answer) 4
+    ∷ eqb (loaded (imageWith 2 0 1 3 1 100 0) [] .answer) 1
+    ∷ eqb (loaded (imageWith 3 5 1 3 1 100 0) [] .answer) 1
+    ∷ eqb (secured (imageWith 2 0x20 1 3 1 100 0) (oneNumber 63) (saying 3) 9 otherFrame room .answer) 4
     ∷ eqb (secured imageB (oneNumber 63) (saying 1) 9 (clearTc 1003) room .answer) 11
     ∷ eqb (secured imageB (oneNumber 63) (saying 1) 9 frameC [] .answer) 6
     ∷ eqb (frameSent (sender 100 0x02000000) 4294967295 .answer) 10
@@ -164,9 +199,37 @@ pub run-sends :
 unfolding everything trace shows after
 run-sends = (refl, refl, refl)
 
+-- a run over two channels of one set, interleaved, with a load and a cut between: one number for both
+abbrev sendingsOfSet : ℕ → List Shown
+sendingsOfSet service =
+    shownOf 0 (imageWith 2 0x22 service 3 1 100 0) []
+    (send (saying 3) 9 tmFrame room
+    ∷ send (saying 3) 9 otherFrame room
+    ∷ load []
+    ∷ send (saying 3) 9 otherFrame room
+    ∷ load []
+    ∷ sendCut (saying 3) 9 tmFrame room 1 []
+    ∷ send (saying 3) 9 tmFrame room
+    ∷ [])
+
+pub run-sends-by-sets : (sendingsOfSet 1 ≡ sendingsShown) × (sendingsOfSet 2 ≡ sendingsShown)
+unfolding everything trace shows after
+run-sends-by-sets = (refl, refl)
+
 -- the frame of the first sending, released at the other end
 abbrev releases : ℕ → Said → List ℕ → List Shown
-releases service said frame = shownOf 0 (there service said frame) [] (check said (out service said frame) room ∷ [])
+releases service said frame =
+    shownOf 0 (there 1 5 1 5 service said frame) [] (check said (out 1 5 1 5 service said frame) room ∷ [])
+
+-- and a frame of channel 1, under the set of channels 1 and 5
+abbrev releasesBySets : ℕ → List Shown
+releasesBySets service =
+    shownOf 0 (there 2 0x22 2 0x22 service (saying 3) otherFrame) []
+    (check (saying 3) (out 2 0x22 2 0x22 service (saying 3) otherFrame) room ∷ [])
+
+pub run-releases-by-sets : releasesBySets 1 ≡ restart ∷ released 64 ∷ []
+unfolding everything trace shows after
+run-releases-by-sets = rw (released-there 2 0x22 2 0x22 1 (saying 3) otherFrame refl .answer)
 
 pub run-releases :
     (releases 1 (saying 1) frameC ≡ restart ∷ released 64 ∷ [])
@@ -174,26 +237,30 @@ pub run-releases :
     × (releases 2 (saying 4) aosFrame ≡ restart ∷ released 64 ∷ [])
 unfolding everything trace shows after
 run-releases = (
-  rw (released-there 1 (saying 1) frameC refl .answer),
-  rw (released-there 1 (saying 4) aosFrame refl .answer),
-  rw (released-there 2 (saying 4) aosFrame refl .answer),
+  rw (released-there 1 5 1 5 1 (saying 1) frameC refl .answer),
+  rw (released-there 1 5 1 5 1 (saying 4) aosFrame refl .answer),
+  rw (released-there 1 5 1 5 2 (saying 4) aosFrame refl .answer),
 )
 
 -- ---- two projects' images
 
--- the entry of case B, sending or receiving, behind another project's entry, of SPI 3
-abbrev twoProjects : ℕ → List ℕ
-twoProjects direction =
-    0x01 ∷ 0x02 ∷ 0x00 ∷ 0x03 ∷ 0x00 ∷ 0x0A ∷ 0x00 ∷ 0x09 ∷ 0x00 ∷ 0x3E ∷ []
+-- the entry of the cases behind another project's entry, of SPI 3
+abbrev besides : ℕ → ℕ → ℕ → ℕ → List ℕ
+besides version channel kind direction =
+    version ∷ 0x02 ∷ 0x00 ∷ 0x03 ∷ 0x00 ∷ 0x0A ∷ 0x00 ∷ 0x09 ∷ 0x00 ∷ 0x3E ∷ []
     ++ (0x02 ∷ 0x03 ∷ 0x01 ∷ 0x02 ∷ 0x00 ∷ 0x01 ∷ 0x02 ∷ 0x00 ∷ 0x00 ∷ 0x07 ∷ [])
     ++ replicate 6 0x00
     ++ replicate 32 0x09
     ++ bytes 4 0x00000001
-    ++ (0x01 ∷ 0x01 ∷ direction ∷ 0x02 ∷ 0x00 ∷ 0x1B ∷ 0x05 ∷ 0x00 ∷ 0x00 ∷ 0x64 ∷ [])
+    ++ (0x01 ∷ kind ∷ direction ∷ 0x02 ∷ 0x00 ∷ 0x1B ∷ channel ∷ 0x00 ∷ 0x00 ∷ 0x64 ∷ [])
     ++ replicate 5 0xFF
     ++ (0x00 ∷ [])
     ++ replicate 32 0x07
     ++ bytes 4 0x00000000
+
+-- that of case B, sending or receiving
+abbrev twoProjects : ℕ → List ℕ
+twoProjects direction = besides 1 5 1 direction
 
 abbrev twoNumbers : List ℕ
 twoNumbers = 100 ∷ 63 ∷ replicate 30 0
@@ -227,17 +294,36 @@ unfolding everything
 same-sending =
     isolation .sending imageB (oneNumber 63) (twoProjects 1) twoNumbers (saying 1) 9 frameC room room one-sends two-send refl
     (both 0 1 (serving imageB 1 (saying 1) 9 frameC 0 (lit< tt) refl) (serving (twoProjects 1) 1 (saying 1) 9 frameC 1 (lit< tt) refl)
-    refl refl)
+    refl refl refl)
 
-pub same-check : let frame = out 1 (saying 1) frameC in
+pub same-check : let frame = out 1 5 1 5 1 (saying 1) frameC in
     SameAnswer (checked (receiver 100 0) (oneNumber 63) (saying 1) frame room) (checked (twoProjects 2) twoNumbers (saying 1) frame room)
 unfolding everything
 same-check =
-    let frame = out 1 (saying 1) frameC in
+    let frame = out 1 5 1 5 1 (saying 1) frameC in
     let spi = spiOn (saying 1) frame in
     isolation .checking (receiver 100 0) (oneNumber 63) (twoProjects 2) twoNumbers (saying 1) frame room room one-receives two-receive refl
     (both 0 1 (serving (receiver 100 0) 2 (saying 1) spi frame 0 (lit< tt) refl) (serving (twoProjects 2) 2 (saying 1) spi frame 1 (lit< tt) refl)
-    refl refl)
+    refl refl refl)
+
+-- in version 2: a sending on channel 1 of the set of channels 1 and 5
+set-sends : Standing (imageWith 2 0x22 1 3 1 100 0) (oneNumber 63)
+unfolding everything
+set-sends = standing (imageWith 2 0x22 1 3 1 100 0) (oneNumber 63) refl refl refl
+
+set-sends-besides : Standing (besides 2 0x22 3 1) twoNumbers
+unfolding everything
+set-sends-besides = standing (besides 2 0x22 3 1) twoNumbers refl refl refl
+
+pub same-sending-by-sets : let one = imageWith 2 0x22 1 3 1 100 0 in
+    SameAnswer (secured one (oneNumber 63) (saying 3) 9 otherFrame room) (secured (besides 2 0x22 3 1) twoNumbers (saying 3) 9 otherFrame room)
+unfolding everything
+same-sending-by-sets =
+    let one = imageWith 2 0x22 1 3 1 100 0 in
+    let two = besides 2 0x22 3 1 in
+    isolation .sending one (oneNumber 63) two twoNumbers (saying 3) 9 otherFrame room room set-sends set-sends-besides refl
+    (both 0 1 (serving one 1 (saying 3) 9 otherFrame 0 (lit< tt) refl) (serving two 1 (saying 3) 9 otherFrame 1 (lit< tt) refl)
+    refl refl refl)
 
 -- a sending under SPI 8 and a check at the ends that send: neither image has an entry for them
 pub neither-sends : SameAnswer (secured imageB (oneNumber 63) (saying 1) 8 frameC room) (secured (twoProjects 1) twoNumbers (saying 1) 8 frameC room)
@@ -254,3 +340,21 @@ neither-checks =
     isolation .checking imageB (oneNumber 63) (twoProjects 1) twoNumbers (saying 1) (securedC 64) room room one-sends two-send refl
     (neither (λ i s. nobody imageB (oneNumber 63) (one-sends .octets) 2 (saying 1) 9 (securedC 64) refl (i, s))
     (λ i s. nobody (twoProjects 1) twoNumbers (two-send .octets) 2 (saying 1) 9 (securedC 64) refl (i, s)))
+
+-- ---- from version 1 to version 2
+
+-- a TM image of channel 5, brought to version 2 with the set of channels 1 and 5, meets the conditions and is valid
+pub upgraded : let before = imageOf 1 3 1 100 0 in Upgraded before (set (set before 0 2) 12 0x22)
+unfolding everything
+upgraded =
+    let before = imageOf 1 3 1 100 0 in
+    record {
+      from = refl;
+      to = refl;
+      elsewhere = λ p one other.
+          getD-set-other (set before 0 2) 12 p 0x22 0 (λ e. other 0 (lit< tt) refl e) ∙ getD-set-other before 0 p 2 0 (omega arith);
+    }
+
+pub upgraded-valid : validImage (set (set (imageOf 1 3 1 100 0) 0 2) 12 0x22) ≡ true
+unfolding everything
+upgraded-valid = refl

@@ -20,11 +20,15 @@ allTrue (b ∷ bs) = b && allTrue bs
 
 -- ---- what the cases speak of
 
--- one entry: SPI 9, service, kind, direction, operational, spacecraft 27, channel 5, MAP 0, window, mask, key, mark
-unfoldable pub imageOf : ℕ → ℕ → ℕ → ℕ → ℕ → List ℕ
-imageOf service kind direction window code =
-    0x01 ∷ 0x01 ∷ 0x00 ∷ 0x09 ∷ 0x00 ∷ 0x06 ∷ service ∷ kind ∷ direction ∷ 0x02 ∷ 0x00 ∷ 0x1B ∷ 0x05 ∷ 0x00
+-- a version, and one entry: SPI 9, service, kind, direction, operational, spacecraft 27, channel octet, MAP 0, window, mask, key, mark
+unfoldable pub imageWith : ℕ → ℕ → ℕ → ℕ → ℕ → ℕ → ℕ → List ℕ
+imageWith version channel service kind direction window code =
+    version ∷ 0x01 ∷ 0x00 ∷ 0x09 ∷ 0x00 ∷ 0x06 ∷ service ∷ kind ∷ direction ∷ 0x02 ∷ 0x00 ∷ 0x1B ∷ channel ∷ 0x00
     ∷ (bytes 2 window ++ (replicate 5 0xFF ++ (0x00 ∷ (replicate 32 0x07 ++ bytes 4 code))))
+
+-- of version 1, with channel 5
+abbrev pub imageOf : ℕ → ℕ → ℕ → ℕ → ℕ → List ℕ
+imageOf service kind direction window code = imageWith 0x01 0x05 service kind direction window code
 
 -- the image of case B, and the same at the receiving end, with that window and that coded mark
 abbrev pub sender : ℕ → ℕ → List ℕ

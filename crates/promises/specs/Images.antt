@@ -1,10 +1,12 @@
--- Document 01, 'The image' and 'Managed numbers', in the octets of an image: where each field of an entry stands, what a valid image is,
+-- Document 01, 'The image' and 'Managed numbers', and document 02, request 2, in the octets of an image: where each field of an entry stands, what a valid image is,
 -- when numbers agree with it, and which entry serves a frame. The promises speak of an image in these words and not in those of the
 -- definitions that they are about, so that a definition which reads another octet or drops a rule breaks a promise.
 -- Assumes nothing.
-use Prim.Native.Nat.{ℕ, _+_, _*_, _/_, _^_, _≤_, _<_}
+use Prim.Native.Nat.{ℕ, _+_, _*_, _/_, _%_, _^_, _≤_, _<_}
 use mathlib.Core.Path.{_≡_}
+use mathlib.Core.Bool.{Bool, true, false, _&&_}
 use mathlib.Core.List.{List}
+use lib.Dec.{eqb}
 use lib.ListN.{length, getD}
 use Rattle.octets.specs.Lists.{octet, part}
 use Rattle.octets.specs.Numbers.{numberAt}
@@ -12,7 +14,10 @@ use Rattle.octets.specs.Xor.{_⊕_}
 use Rattle.link.specs.Said.{Said}
 use Rattle.promises.specs.Forms.{formOf, formSaid}
 
--- ---- the contents
+-- ---- version and contents
+
+abbrev pub versionIn : List ℕ → ℕ
+versionIn image = octet image 0
 
 abbrev pub countIn : List ℕ → ℕ
 countIn image = octet image 1
@@ -66,6 +71,15 @@ codeAt image i = numberAt (place image i 48) 4 image
 abbrev pub wholeBodyAt : List ℕ → ℕ → List ℕ
 wholeBodyAt image i = part (place image i 0) 52 image
 
+-- whether its channel octet is a set of eight bits, the lowest for channel 0: in version 2, of kind 3
+abbrev pub isSet : List ℕ → ℕ → Bool
+isSet image i = eqb (versionIn image) 2 && eqb (kindAt image i) 3
+
+-- it serves a channel: the one that it holds, or one whose bit is 1 in its set
+pub record ServesChannel (image : List ℕ) (i channel : ℕ) : Type 0 where
+  pub one : isSet image i ≡ false → channelAt image i ≡ channel
+  pub set : isSet image i ≡ true → (channel < 8) × (channelAt image i / 2 ^ channel % 2 ≡ 1)
+
 -- the code of a mark: m exclusive-or half of m rounded down
 abbrev pub coded : ℕ → ℕ
 coded m = m ⊕ m / 2
@@ -78,14 +92,15 @@ pub record BodyRules (image : List ℕ) (i : ℕ) : Type 0 where
   pub direction : (1 ≤ directionAt image i) × (directionAt image i ≤ 2)
   pub state : stateAt image i ≤ 2
   pub spacecraft : spacecraftAt image i ≤ formOf (kindAt image i) .mostSpacecraft
-  pub channel : channelAt image i ≤ formOf (kindAt image i) .mostChannel
+  pub channel : isSet image i ≡ false → channelAt image i ≤ formOf (kindAt image i) .mostChannel
+  pub channels : isSet image i ≡ true → 1 ≤ channelAt image i
   pub map : mapAt image i ≤ formOf (kindAt image i) .mostMap
   pub window : (1 ≤ windowAt image i) × (windowAt image i ≤ 1024)
   pub mask : kindAt image i ≡ 1 → octet image (place image i 15) ≡ 0
   pub mark : codeAt image i < 2 ^ 26
 
 pub record ImageRules (image : List ℕ) : Type 0 where
-  pub version : octet image 0 ≡ 1
+  pub version : (1 ≤ versionIn image) × (versionIn image ≤ 2)
   pub count : countIn image ≤ 32
   pub size : length image ≡ 2 + 56 * countIn image
   pub spi : (i : ℕ) → i < countIn image → (1 ≤ spiAt image i) × (spiAt image i ≤ 65534)
@@ -117,5 +132,5 @@ pub record Serves (image : List ℕ) (direction : ℕ) (said : Said) (spi : ℕ)
   pub directions : directionAt image i ≡ direction
   pub kinds : kindAt image i ≡ said .kind
   pub spacecraft : spacecraftAt image i ≡ formSaid said .spacecraft frame
-  pub channel : channelAt image i ≡ formSaid said .channel frame
+  pub channel : ServesChannel image i (formSaid said .channel frame)
   pub map : said .kind ≡ 2 → mapAt image i ≡ formSaid said .map frame

@@ -8,3 +8,4 @@ pub mod Leaves
 pub mod Refusals
 pub mod RoundTrip
 pub mod Runs
+pub mod Upgrade

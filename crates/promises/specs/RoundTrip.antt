@@ -1,7 +1,8 @@
 -- Demand 2: what one end secures the other end releases. If securing a frame under an SPI answers 0, then checking the frame that went
 -- out, under the same kind, answers 0 at the other end, and its result is exactly the clear frame's data. It supposes what document 01
 -- lets it suppose: the other end's image is valid and its numbers agree with it, its entry is operational and holds the same SPI, service,
--- kind, key, mask and identifiers with direction 2, its output is long enough, and the number on the frame lies in its window. One
+-- kind, key, mask, spacecraft and MAP with direction 2 and serves the frame's channel (whatever other channels either end serves, and
+-- whichever version either image has), its output is long enough, and the number on the frame lies in its window. One
 -- statement for both services and every kind.
 -- Assumes nothing.
 use Prim.Native.Nat.{ℕ, _≤_, _<_}
@@ -11,12 +12,13 @@ use lib.ListN.{length}
 use Rattle.link.specs.Calls.{Left, handed, secured, checked}
 use Rattle.link.specs.Said.{Said}
 use Rattle.octets.specs.Lists.{Octets}
-use Rattle.promises.specs.Images.{countIn, spiAt, serviceAt, kindAt, directionAt, stateAt, spacecraftAt, channelAt, mapAt}
-use Rattle.promises.specs.Images.{windowAt, maskAt, keyAt, lastAt, ImageRules, Agreeing, InWindow}
+use Rattle.promises.specs.Images.{countIn, spiAt, serviceAt, kindAt, directionAt, stateAt, spacecraftAt, mapAt}
+use Rattle.promises.specs.Images.{windowAt, maskAt, keyAt, lastAt, ServesChannel, ImageRules, Agreeing, InWindow}
+use Rattle.promises.specs.Forms.{formSaid}
 use Rattle.promises.specs.Frames.{dataInClear, numberOn}
 
--- entry i of the image there, against entry e of the image here
-pub record OtherEnd (here : List ℕ) (e : ℕ) (there numbers : List ℕ) (i : ℕ) : Type 0 where
+-- entry i of the image there, against entry e of the image here, for a frame that is sent under entry e
+pub record OtherEnd (said : Said) (frame here : List ℕ) (e : ℕ) (there numbers : List ℕ) (i : ℕ) : Type 0 where
   pub valid : ImageRules there
   pub agree : Agreeing there numbers
   pub entry : i < countIn there
@@ -26,7 +28,7 @@ pub record OtherEnd (here : List ℕ) (e : ℕ) (there numbers : List ℕ) (i : 
   pub key : keyAt there i ≡ keyAt here e
   pub mask : maskAt there i ≡ maskAt here e
   pub spacecraft : spacecraftAt there i ≡ spacecraftAt here e
-  pub channel : channelAt there i ≡ channelAt here e
+  pub channel : ServesChannel there i (formSaid said .channel frame)
   pub map : mapAt there i ≡ mapAt here e
   pub direction : directionAt there i ≡ 2
   pub state : stateAt there i ≡ 2
@@ -43,7 +45,7 @@ pub record RoundTrip : Type 0 where
       x .answer ≡ 0
       → e < countIn here
       → spiAt here e ≡ spi
-      → OtherEnd here e there numbers i
+      → OtherEnd said frame here e there numbers i
       → InWindow (lastAt numbers i) (windowAt there i) (numberOn (serviceAt here e) said (handed x))
       → length (dataInClear said frame) ≤ length output
       → Released (dataInClear said frame) (checked there numbers said (handed x) output)

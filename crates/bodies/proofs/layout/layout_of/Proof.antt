@@ -1,6 +1,6 @@
--- `layout_of` is right because its record is that of the definition, which is lawful.
+-- `layout_of` is right because for either version its record is that of the definition, which is lawful.
 -- Assumes nothing.
-use mathlib.Core.Path.{refl}
+use borrow.Author.Tests.{eq-eqb, ne-eqb}
 use Rattle.bodies.specs.Layout.{layoutOf}
 use Rattle.bodies.proofs.Layouts.{lawful}
 use Rattle.bodies.proofs.layout.layout_of.Statement.{statement}
@@ -8,7 +8,11 @@ use Rattle.bodies.proofs.layout.layout_of.Tie as tie
 
 returns : tie.Need-returns
 unfolding layoutOf
-returns c = (refl, lawful (c .args .version))
+returns c = let e = eq-eqb _ _ (c .if1 .taken) in (simp e, simp e at (lawful (c .before .args .version)))
+
+returns-2 : tie.Need-returns-2
+unfolding layoutOf
+returns-2 c = let e = ne-eqb _ _ (c .if1 .left) in (simp e, simp e at (lawful (c .before .args .version)))
 
 pub layout-of-spec : {M : Type 1} → statement M
-layout-of-spec = tie.close (tie.spec returns)
+layout-of-spec = tie.close (tie.spec returns returns-2)

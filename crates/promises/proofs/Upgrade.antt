@@ -1,0 +1,32 @@
+-- An image brought from version 1 to version 2 keeps its marks: no octet of a mark is octet 0 or the channel octet of a body.
+-- Assumes nothing.
+use Prim.Native.Nat.{ℕ, _+_, _*_, _<_}
+use mathlib.Core.Path.{_≡_, ap, _∙_}
+use mathlib.Core.List.{List}
+use native.Mathlib.Omega.{arith}
+use Rattle.octets.specs.Numbers.{numberAt}
+use Rattle.octets.proofs.Numbers.{numberAt-same}
+use Rattle.promises.specs.Images.{countIn, place, codeAt, Agreeing}
+use Rattle.promises.specs.Upgrade.{Upgraded, Upgrading}
+
+module _ (before after : List ℕ) (u : Upgraded before after) where
+  same-count : countIn after ≡ countIn before
+  same-count = u .elsewhere 1 (omega arith) (λ i below tm same. omega arith)
+
+  same-code : (i : ℕ) → codeAt after i ≡ codeAt before i
+  same-code i =
+      ap (λ (k : ℕ). numberAt (2 + 4 * k + 52 * i + 48) 4 after) same-count
+      ∙ numberAt-same (place before i 48) 4 after before
+      (λ d small. u .elsewhere (place before i 48 + d) (omega arith) (λ j below tm same. omega arith))
+
+pub upgrading : Upgrading
+upgrading =
+    record {
+      entries = same-count;
+      marks = same-code;
+      agree = λ before after numbers u a.
+          record {
+            marks = λ i below.
+                same-code before after u i ∙ a .marks i (rw (same-count before after u) at below);
+          };
+    }
