@@ -1,15 +1,9 @@
 // FIPS 197, 5.1.3: MixColumns.
+use substitution::times_x;
 ghost use mathlib.Core.Path.{_≡_};
 ghost use mathlib.Core.List.{[], _∷_};
-ghost use Rattle.substitution.specs.Field.{xtime, _⊗_};
+ghost use Rattle.substitution.specs.Field.{_⊗_};
 ghost use Rattle.cipher.specs.MixColumns.{mixer, mixColumns};
-
-// x times b in the field (4.2.1).
-fn times_x(b: u8) -> u8
-    ensures { λ r. ⌜ r ≡ xtime b ⌝ }
-{
-    if b < 128 { b * 2 } else { (b - 128) * 2 ^ 0x1b }
-}
 
 // One column, by the rows of (5.6); {03} times an octet is the octet and {02} times it.
 fn mix_column(a: u8, b: u8, c: u8, d: u8) -> [u8; 4]

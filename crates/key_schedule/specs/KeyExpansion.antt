@@ -8,7 +8,7 @@ use mathlib.Core.List.{List, [], _∷_, _++_}
 use lib.Dec.{eqb}
 use Rattle.octets.specs.Lists.{octet, tab}
 use Rattle.octets.specs.Xor.{xors}
-use Rattle.substitution.specs.Field.{powerOfX}
+use Rattle.substitution.specs.Field.{xtime}
 use Rattle.substitution.specs.Sbox.{sbox}
 
 -- 3.5: word i of w, four octets
@@ -23,9 +23,14 @@ subWord a = tab 4 (λ j. sbox (octet a j))
 unfoldable pub rotWord : List ℕ → List ℕ
 rotWord a = tab 4 (λ j. octet a ((j + 1) % 4))
 
--- the round constant word, x^(j - 1), {00}, {00}, {00}, for j from 1
+-- x^n, the first octet of Rcon[n + 1]: {01} to begin with, and each made from the one before by doubling in the field (4.2.1)
+unfoldable pub roundConstant : ℕ → ℕ
+roundConstant zero = 1
+roundConstant (suc n) = xtime (roundConstant n)
+
+-- the round constant word Rcon[j], which is x^(j - 1), {00}, {00}, {00}, for j from 1
 unfoldable pub rcon : ℕ → List ℕ
-rcon j = powerOfX (j - 1) ∷ 0 ∷ 0 ∷ 0 ∷ []
+rcon j = roundConstant (j - 1) ∷ 0 ∷ 0 ∷ 0 ∷ []
 
 -- temp, as it is when word i is made
 unfoldable pub temp : List ℕ → ℕ → List ℕ

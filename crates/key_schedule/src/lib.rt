@@ -2,23 +2,14 @@
 // number of blocks.
 use substitution::substituted;
 use substitution::substitution_table;
+use substitution::times_x;
 ghost use mathlib.Core.Path.{_≡_};
-ghost use Prim.Native.Nat.{_≤_, _<_};
+ghost use Prim.Native.Nat.{_-_, _/_, _≤_, _<_};
 ghost use lib.ListN.{take};
 ghost use Rattle.octets.specs.Lists.{IsTable};
 ghost use Rattle.octets.specs.Xor.{xors};
-ghost use Rattle.substitution.specs.Field.{powerOfX};
 ghost use Rattle.substitution.specs.Sbox.{sbox};
-ghost use Rattle.key_schedule.specs.KeyExpansion.{word, subWord, rotWord, rcon, temp, nextWord, keyExpansion};
-
-// The first octets of Rcon[1] to Rcon[7]: the powers of x from x^0.
-const ROUND_CONSTANTS: [u8; 7] = [0x01, 0x02, 0x04, 0x08, 0x10, 0x20, 0x40];
-
-fn round_constants() -> [u8; 7]
-    ensures { λ r. ⌜ IsTable 7 powerOfX r ⌝ }
-{
-    ROUND_CONSTANTS
-}
+ghost use Rattle.key_schedule.specs.KeyExpansion.{word, subWord, rotWord, roundConstant, temp, nextWord, keyExpansion};
 
 fn word_at(w: &[u8; 240], i: usize) -> [u8; 4]
     requires { ⌜ i < 60 ⌝ }
@@ -52,23 +43,29 @@ fn rot_word(a: [u8; 4]) -> [u8; 4]
     [a[1], a[2], a[3], a[0]]
 }
 
-fn round_constant(j: usize) -> [u8; 4]
-    requires { ⌜ (1 ≤ j) × (j ≤ 7) ⌝ }
-    ensures { λ r. ⌜ r ≡ rcon j ⌝ }
+// The first octet of the round constant that comes next after word i, from what came next before it: where word i took that, the next is made from
+// it by doubling.
+fn constant_after(constant: u8, i: usize) -> u8
+    requires { ⌜ 8 ≤ i ⌝ }
+    requires { ⌜ constant ≡ roundConstant ((i - 1) / 8) ⌝ }
+    ensures { λ r. ⌜ r ≡ roundConstant (i / 8) ⌝ }
 {
-    let powers = round_constants();
-    [powers[j - 1], 0, 0, 0]
+    if i % 8 != 0 {
+        return constant;
+    }
+    times_x(constant)
 }
 
-// What word i takes besides word i - 8.
-fn temporary(table: &[u8; 256], w: &[u8; 240], i: usize) -> [u8; 4]
+// What word i takes besides word i - 8. The constant is the first octet of the round constant that comes next.
+fn temporary(table: &[u8; 256], w: &[u8; 240], constant: u8, i: usize) -> [u8; 4]
     requires { ⌜ IsTable 256 sbox (now table) ⌝ }
     requires { ⌜ (8 ≤ i) × (i < 60) ⌝ }
+    requires { ⌜ constant ≡ roundConstant ((i - 1) / 8) ⌝ }
     ensures { λ r. ⌜ r ≡ temp (now (w .entry)) i ⌝ }
 {
     let last = word_at(w, i - 1);
     if i % 8 == 0 {
-        return xor_words(sub_word(table, rot_word(last)), round_constant(i / 8));
+        return xor_words(sub_word(table, rot_word(last)), [constant, 0, 0, 0]);
     }
     if i % 8 == 4 {
         return sub_word(table, last);
@@ -76,12 +73,13 @@ fn temporary(table: &[u8; 256], w: &[u8; 240], i: usize) -> [u8; 4]
     last
 }
 
-fn next_word(table: &[u8; 256], w: &[u8; 240], i: usize) -> [u8; 4]
+fn next_word(table: &[u8; 256], w: &[u8; 240], constant: u8, i: usize) -> [u8; 4]
     requires { ⌜ IsTable 256 sbox (now table) ⌝ }
     requires { ⌜ (8 ≤ i) × (i < 60) ⌝ }
+    requires { ⌜ constant ≡ roundConstant ((i - 1) / 8) ⌝ }
     ensures { λ r. ⌜ r ≡ nextWord (now (w .entry)) i ⌝ }
 {
-    xor_words(word_at(w, i - 8), temporary(table, w, i))
+    xor_words(word_at(w, i - 8), temporary(table, w, constant, i))
 }
 
 // The words of the key, and room for those that follow.
@@ -103,14 +101,17 @@ pub fn expand_key(key: [u8; 32]) -> [u8; 240]
 {
     let table = substitution_table();
     let mut w = key_words(key);
+    let mut constant: u8 = 1;
     let mut n: usize = 0;
     while n < 52 {
-        let next = next_word(&table, &w, 8 + n);
-        let at = 4 * (8 + n);
+        let i = 8 + n;
+        let next = next_word(&table, &w, constant, i);
+        let at = 4 * i;
         w[at] = next[0];
         w[at + 1] = next[1];
         w[at + 2] = next[2];
         w[at + 3] = next[3];
+        constant = constant_after(constant, i);
         n += 1;
     }
     w

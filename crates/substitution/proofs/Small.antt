@@ -1,4 +1,4 @@
--- The S-box and the powers of x are octets.
+-- The S-box and the product of an octet by x are octets.
 -- Assumes nothing.
 use mathlib.Core.Path.{_≡_, refl}
 use mathlib.Core.Bool.{Bool, true, false, cond}
@@ -9,7 +9,7 @@ use borrow.Author.Tests.{ltb-true}
 use lib.Bits.{xor-lt}
 use lib.Dec.{ltb, lit<}
 use Rattle.octets.specs.Xor.{_⊕_}
-use Rattle.substitution.specs.Field.{xtime, powerOfX}
+use Rattle.substitution.specs.Field.{xtime}
 use Rattle.substitution.specs.Sbox.{bit, affineBit, ofBits, affine, inverse, sbox}
 
 -- the number that n bits make
@@ -35,7 +35,6 @@ by-case : (b : ℕ) → b < 256 → (t : Bool) → ltb b 128 ≡ t → cond t (b
 by-case b h true e = omega (arith, ltb-true b 128 e)
 by-case b h false e = xor-lt 8 ((b - 128) * 2) 0x1b (omega arith) (lit< tt)
 
-pub powerOfX-lt : (n : ℕ) → powerOfX n < 256
-unfolding powerOfX xtime
-powerOfX-lt zero = lit< tt
-powerOfX-lt (suc n) = by-case (powerOfX n) (powerOfX-lt n) (ltb (powerOfX n) 128) refl
+pub xtime-lt : (b : ℕ) → b < 256 → xtime b < 256
+unfolding xtime
+xtime-lt b h = by-case b h (ltb b 128) refl

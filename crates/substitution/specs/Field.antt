@@ -23,11 +23,6 @@ unfolding mulBits
 b • a = mulBits 8 b a
 
 infixl 70 _•_
--- x^n, as xtime repeated
-unfoldable pub powerOfX : ℕ → ℕ
-powerOfX zero = 1
-powerOfX (suc n) = xtime (powerOfX n)
-
 -- 4.3, (4.12): the product modulo x^4 + 1 of two polynomials of four terms, each given by its coefficients a_0, a_1, a_2, a_3
 unfoldable pub _⊗_ : List ℕ → List ℕ → List ℕ
 a ⊗ b =

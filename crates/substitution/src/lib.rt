@@ -1,7 +1,15 @@
 // FIPS 197, 4 and 5.1.1: the field GF(2^8), and the substitution that the key schedule and the rounds have in common.
 ghost use mathlib.Core.Path.{_≡_};
 ghost use Rattle.octets.specs.Lists.{IsTable};
+ghost use Rattle.substitution.specs.Field.{xtime};
 ghost use Rattle.substitution.specs.Sbox.{sbox};
+
+// x times b in the field (4.2.1). Whether {1b} is added is computed from bit 7, as b may be secret.
+pub fn times_x(b: u8) -> u8
+    ensures { λ r. ⌜ r ≡ xtime b ⌝ }
+{
+    (b << 1) ^ (b >> 7) * 0x1b
+}
 
 // The S-box of figure 7.
 const SBOX: [u8; 256] = *b"\
