@@ -1,4 +1,4 @@
--- Document 02, request 8: no check is answered by 9, the padding error, whatever it is given.
+-- Document 02, request 8: no check is answered by 9, which was the number of a padding error and stays free, whatever it is given.
 -- Assumes nothing.
 use Prim.Native.Nat.{ℕ}
 use mathlib.Core.Path.{_≡_}
