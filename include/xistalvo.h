@@ -97,7 +97,7 @@ enum xistalvo_answer {
     XISTALVO_OUTPUT_TOO_SHORT = 6,    /* The output is shorter than the result. */
     XISTALVO_MAC_DIFFERS = 7,         /* The MAC is not the one that key, header, security header and data give. */
     XISTALVO_NUMBER_REFUSED = 8,      /* The frame's number is outside the window, or above 4,294,967,295. */
-    XISTALVO_PADDING_ERROR = 9,       /* More fill octets stated than data octets. No frame states any, so no call answers this. */
+    /* 9 is free: it was a padding error, which no call ever gave. */
     XISTALVO_NUMBERS_USED_UP = 10,    /* The last number is already 4,294,967,295; nothing more can be sent. */
     XISTALVO_SECURED_TOO_LONG = 11    /* The secured frame would be longer than its kind allows. */
 };
@@ -131,7 +131,7 @@ uint64_t xistalvo_secure(uint8_t *image, size_t image_length, uint32_t *numbers,
 /* Checks a secured frame that was received, and releases its data.
  *
  * Answers, in this order: 1, 2, 3 (a secured frame has at least its SPI), 4 (the SPI of the frame, with direction 'receive'), 5, 6, 7, 8,
- * 0. The place of 9 is before 6; it is never given. The frame's number n is accepted where numbers[i] < n, n is at most numbers[i] + window
+ * 0. The frame's number n is accepted where numbers[i] < n, n is at most numbers[i] + window
  * and at most 4,294,967,295, over whole numbers, where i is the entry.
  * Done: first the mark of entry i is raised, one at a time, to n/64 rounded down, one octet of the image stored for each raise; the stores
  * are counted, at most 16. The clear data alone, without header and OCF, fills the start of the output, and the length is that of the data.
@@ -163,7 +163,6 @@ static inline const char *xistalvo_answer_name(unsigned int answer)
     case XISTALVO_OUTPUT_TOO_SHORT: return "output too short";
     case XISTALVO_MAC_DIFFERS: return "MAC differs";
     case XISTALVO_NUMBER_REFUSED: return "number outside the window";
-    case XISTALVO_PADDING_ERROR: return "padding error";
     case XISTALVO_NUMBERS_USED_UP: return "numbers used up";
     case XISTALVO_SECURED_TOO_LONG: return "secured frame would be too long";
     default: return "no answer of the module";

@@ -6,20 +6,19 @@ NUMBERS = 32
 LARGEST_FRAME = 2048
 TC, TC_SEGMENT, TM, AOS = 1, 2, 3, 4
 
-ANSWERS = (
-    "done",
-    "image breaks a rule",
-    "numbers do not agree with the marks",
-    "frame breaks a rule of its kind",
-    "no association matches",
-    "secured frame too short",
-    "output too short",
-    "MAC differs",
-    "number outside the window",
-    "padding error",
-    "numbers used up",
-    "secured frame would be too long",
-)
+ANSWERS = {
+    0: "done",
+    1: "image breaks a rule",
+    2: "numbers do not agree with the marks",
+    3: "frame breaks a rule of its kind",
+    4: "no association matches",
+    5: "secured frame too short",
+    6: "output too short",
+    7: "MAC differs",
+    8: "number outside the window",
+    10: "numbers used up",
+    11: "secured frame would be too long",
+}
 
 
 class Result:

@@ -109,8 +109,7 @@ module _ (h : Held) (last : ℕ) (right : Bool) (k : Kind) (frame : List ℕ) (r
   pub receives : first (receivingTests h last right k frame room) ≡ 0 → Receives h last right k frame room
   receives e =
       let t5 = passed 5 (tooShort k (securityLength h) frame) _ (omega arith) e in
-      let t9 = passed 9 false _ (omega arith) (t5 .1) in
-      let t6 = passed 6 (ltb room (clearLength h k frame)) _ (omega arith) (t9 .1) in
+      let t6 = passed 6 (ltb room (clearLength h k frame)) _ (omega arith) (t5 .1) in
       let t7 = passed 7 (not right) _ (omega arith) (t6 .1) in
       let t8 = passed 8 (not inside) _ (omega arith) (t7 .1) in
       record {
@@ -123,7 +122,6 @@ module _ (h : Held) (last : ℕ) (right : Bool) (k : Kind) (frame : List ℕ) (r
   pub past-receiving : Receives h last right k frame room → first (receivingTests h last right k frame room) ≡ 0
   past-receiving o =
       passes 5 (tooShort k (securityLength h) frame) _ (o .long)
-      ∙ passes 9 false _ refl
       ∙ passes 6 (ltb room (clearLength h k frame)) _ (le-ltb room (clearLength h k frame) (o .roomy))
       ∙ passes 7 (not right) _ (ap not (o .mac))
       ∙ passes 8 (not inside) [] (ap not (o .window))

@@ -30,7 +30,6 @@ reported answer.TooShort = refusal 5
 reported answer.NoRoom = refusal 6
 reported answer.WrongMac = refusal 7
 reported answer.OutsideWindow = refusal 8
-reported answer.BadPadding = refusal 9
 reported answer.NumbersSpent = refusal 10
 reported answer.TooLong = refusal 11
 

@@ -94,14 +94,12 @@ securing see said spi frame room =
       result = securedFrame h (kindSaid said) spi n frame;
     }
 
--- ---- checking a secured frame; `right` is how the comparison of its MAC falls out. No security header of the base has a pad length, so no
--- frame states fill, and 9 never applies
+-- ---- checking a secured frame; `right` is how the comparison of its MAC falls out
 
 -- under what the association that matches holds, after the last number that it used
 abbrev pub receivingTests : Held → ℕ → Bool → Kind → List ℕ → ℕ → List Test
 receivingTests h last right k frame room =
     (5, tooShort k (securityLength h) frame)
-    ∷ (9, false)
     ∷ (6, ltb room (clearLength h k frame))
     ∷ (7, not right)
     ∷ (8, not (accepts last (h .window) (numberIn h k frame)))

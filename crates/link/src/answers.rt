@@ -14,7 +14,6 @@ pub enum Answer {
     NoRoom,
     WrongMac,
     OutsideWindow,
-    BadPadding,
     NumbersSpent,
     TooLong,
 }

@@ -1,5 +1,5 @@
-// Document 01, 'What comes back': a secured frame under the entry that matches, 5, 9, 6, 7 and 8 in the paper's order, and how its data is
-// released. No security header has a pad length, so no frame is answered by 9.
+// Document 01, 'What comes back': a secured frame under the entry that matches, 5, 6, 7 and 8 in the paper's order, and how its data is
+// released.
 use crate::answers::Answer;
 use crate::answers::Outcome;
 use crate::answers::refused;

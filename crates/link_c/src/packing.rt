@@ -25,7 +25,6 @@ pub(crate) fn pack(answer: Answer) -> u64
         Answer::NoRoom => word(6, 0, 0),
         Answer::WrongMac => word(7, 0, 0),
         Answer::OutsideWindow => word(8, 0, 0),
-        Answer::BadPadding => word(9, 0, 0),
         Answer::NumbersSpent => word(10, 0, 0),
         Answer::TooLong => word(11, 0, 0),
     }

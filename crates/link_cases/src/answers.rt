@@ -16,7 +16,6 @@ fn number_of(answer: Answer) -> u64 {
         Answer::NoRoom => 6,
         Answer::WrongMac => 7,
         Answer::OutsideWindow => 8,
-        Answer::BadPadding => 9,
         Answer::NumbersSpent => 10,
         Answer::TooLong => 11,
     }

@@ -286,9 +286,6 @@ module _ (image numbers : List ℕ) (octets : Octets image) (said : Said) (frame
       next answer.TooShort (tooShort (kindSaid said) (securityLength h) frame) _ _ _
       (λ t r. omega (arith, r d s, ltb-true (length frame) least t))
       (λ t. all _ (omega (arith, ltb-false (length frame) least t)))
-      (next answer.BadPadding false _ _ _
-      (λ t r. differ false t refl)
-      (λ t. all _ (omega arith))
       (next answer.NoRoom (ltb (length output) size) _ _ _
       (λ t r. omega (arith, r d s, ltb-true (length output) size t))
       (λ t. all _ (omega (arith, ltb-false (length output) size t)))
@@ -303,7 +300,7 @@ module _ (image numbers : List ℕ) (octets : Octets image) (said : Said) (frame
       (λ t.
       let x = accepted (a .number) (h .window) n (not-false inside t) in
       all _ (record { above = omega (arith, x .above); near = omega (arith, x .near); most = omega (arith, x .fits) }))
-      last-done))))))
+      last-done)))))
 
 -- ---- all of them
 
@@ -322,7 +319,6 @@ answering =
             six = refl;
             seven = refl;
             eight = refl;
-            nine = refl;
             ten = refl;
             eleven = refl;
           };

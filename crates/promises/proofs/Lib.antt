@@ -7,6 +7,7 @@ pub mod Forms
 pub mod Isolation
 pub mod Keeps
 pub mod Leaves
+pub mod NoPadding
 pub mod Readings
 pub mod Refusals
 pub mod Released

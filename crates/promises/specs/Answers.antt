@@ -33,7 +33,6 @@ pub record Table : Type 0 where
   pub six : reported answer.NoRoom ≡ reporting 6 0 0
   pub seven : reported answer.WrongMac ≡ reporting 7 0 0
   pub eight : reported answer.OutsideWindow ≡ reporting 8 0 0
-  pub nine : reported answer.BadPadding ≡ reporting 9 0 0
   pub ten : reported answer.NumbersSpent ≡ reporting 10 0 0
   pub eleven : reported answer.TooLong ≡ reporting 11 0 0
 
@@ -78,7 +77,7 @@ securingRules image numbers said spi frame output =
     (rule answer.NumbersSpent (under (λ e. lastAt numbers e < 4294967295))
     noMore))))))
 
--- in the order 1, 2, 3, 4, 5, 9, 6, 7, 8. Rule 9 has no fill octets to count: padding is left out of the base, so none is ever stated
+-- in the order 1, 2, 3, 4, 5, 6, 7, 8
 abbrev pub checkingRules : List ℕ → List ℕ → Said → List ℕ → List ℕ → Rules
 checkingRules image numbers said frame output =
     let serves : ℕ → Type 0 = Serves image 2 said (spiOn said frame) frame in
@@ -91,11 +90,10 @@ checkingRules image numbers said frame output =
     (rule answer.BadFrame (FrameRules said frame 2)
     (rule answer.NoEntry ((e : ℕ) × serves e)
     (rule answer.TooShort (under (λ e. least e ≤ length frame))
-    (rule answer.BadPadding (under (λ e. 0 ≤ length (text e)))
     (rule answer.NoRoom (under (λ e. length (text e) ≤ length output))
     (rule answer.WrongMac (under (λ e. right e ≡ macOn said frame))
     (rule answer.OutsideWindow (under (λ e. InWindow (lastAt numbers e) (windowAt image e) (numberOn (serviceAt image e) said frame)))
-    noMore))))))))
+    noMore)))))))
 
 pub record Answering : Type 0 where
   pub table : Table

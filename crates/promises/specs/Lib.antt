@@ -5,6 +5,7 @@ pub mod Frames
 pub mod Images
 pub mod Isolation
 pub mod Leaves
+pub mod NoPadding
 pub mod Refusals
 pub mod RoundTrip
 pub mod Runs

@@ -32,7 +32,6 @@ pub enum Refusal {
     OutputTooShort = 6,
     MacDiffers = 7,
     NumberRefused = 8,
-    PaddingError = 9,
     NumbersUsedUp = 10,
     SecuredTooLong = 11,
 }
@@ -54,7 +53,6 @@ impl Refusal {
             Refusal::OutputTooShort => "output too short",
             Refusal::MacDiffers => "MAC differs",
             Refusal::NumberRefused => "number outside the window",
-            Refusal::PaddingError => "padding error",
             Refusal::NumbersUsedUp => "numbers used up",
             Refusal::SecuredTooLong => "secured frame would be too long",
         }
@@ -110,7 +108,6 @@ fn unpack(result: u64) -> Result<Done, Refusal> {
         6 => Refusal::OutputTooShort,
         7 => Refusal::MacDiffers,
         8 => Refusal::NumberRefused,
-        9 => Refusal::PaddingError,
         10 => Refusal::NumbersUsedUp,
         11 => Refusal::SecuredTooLong,
         other => unreachable!("the module has no answer {other}"),

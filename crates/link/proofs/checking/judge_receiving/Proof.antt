@@ -63,8 +63,8 @@ shortness c = c .too-short .ensures ∙ ap (λ (s : ℕ). parts.tooShort (kind c
 returns : tie.Need-returns
 returns c = refuses answer.TooShort _ 5 refl (omega arith) (applies 5 _ _ (sym (shortness (c .before)) ∙ c .if1 .taken))
 
-past-5 : (c : tie.Else1) → first (tests (c .before)) ≡ first (drop 2 (tests (c .before)))
-past-5 c = passes 5 _ _ (sym (shortness (c .before)) ∙ c .if1 .left) ∙ passes 9 _ _ refl
+past-5 : (c : tie.Else1) → first (tests (c .before)) ≡ first (drop 1 (tests (c .before)))
+past-5 c = passes 5 _ _ (sym (shortness (c .before)) ∙ c .if1 .left)
 
 opened : (c : tie.Else1) → let g = start (c .before) .args in Opens (g .opening) (g .frame .now)
 opened c =
@@ -84,7 +84,7 @@ returns-2 c =
     (past-5 (c .before .before)
     ∙ applies 6 _ _ (lt-ltb (start d .args .room) (clearLength (held d) (kind d) (frame d)) (omega (arith, c .before .clear-length .ensures))))
 
-past-6 : (c : tie.Else2) → let d = at-length (c .before) in first (tests d) ≡ first (drop 3 (tests d))
+past-6 : (c : tie.Else2) → let d = at-length (c .before) in first (tests d) ≡ first (drop 2 (tests d))
 past-6 c =
     let d = at-length (c .before) in
     past-5 (c .before .before)
@@ -98,7 +98,7 @@ returns-3 c =
     refuses answer.WrongMac _ 7 refl (omega arith)
     (past-6 (c .before .before) ∙ applies 7 _ _ (ap not (sym (c .before .mac-right .ensures)) ∙ c .if3 .taken))
 
-past-7 : (c : tie.Else3) → let d = at-length (at-room (c .before)) in first (tests d) ≡ first (drop 4 (tests d))
+past-7 : (c : tie.Else3) → let d = at-length (at-room (c .before)) in first (tests d) ≡ first (drop 3 (tests d))
 past-7 c = past-6 (c .before .before) ∙ passes 7 _ _ (ap not (sym (c .before .mac-right .ensures)) ∙ c .if3 .left)
 
 -- ---- 8
