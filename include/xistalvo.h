@@ -144,8 +144,8 @@ uint64_t xistalvo_check(uint8_t *image, size_t image_length, uint32_t *numbers, 
  *
  * Makes, of the octet stores that raise the mark of this entry one at a time to number/64 rounded down, the first as many as 'stores'
  * says, or all where there are fewer, and returns how many it made. Where the mark is already there or higher there are none.
- * An image whose version is not 1 or 2, whose count is above 32 or whose length is not 2 + 56 k, and an entry that is not below the count k: none
- * is made and 0 returned. No other rule of the image is tested; the mark is where the layout puts it, in the last 4 octets of the body at
+ * An image whose version is not 1 or 2, whose count is above 32 or whose length is not 2 + 56 k, and an entry that is not below the count
+ * k: none is made and 0 returned. No other rule of the image is tested; the mark is where the layout puts it, in the last 4 octets of the body at
  * 2 + 4 k + 52 entry, whatever the contents say of its position.
  * Only those octets of the image are written. Securing and checking make all their stores before they write the output. */
 uint32_t xistalvo_raise(uint8_t *image, size_t image_length, uint8_t entry, uint32_t number, uint32_t stores);

@@ -1,4 +1,5 @@
--- Document 01, 'What comes back', answer 4, and document 02, request 2: what a frame and its SPI ask of an entry, and the search, which ends at the first entry that matches.
+-- Document 01, 'What comes back', answer 4, and document 02, request 2: what a frame and its SPI ask of an entry, and the search, which
+-- ends at the first entry that matches.
 -- Assumes nothing.
 use Prim.Native.Nat.{ℕ, zero, suc, _+_, _/_, _%_, _^_}
 use mathlib.Core.Bool.{Bool, cond, not, _&&_, _||_}

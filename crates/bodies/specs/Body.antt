@@ -1,5 +1,5 @@
--- Document 01, 'The image', and document 02, request 2: the body of an entry, what its octets hold and what is allowed there. Octets are counted from the body's first.
--- A field whose place, size or rule depends on the image's version is given it.
+-- Document 01, 'The image', and document 02, request 2: the body of an entry, what its octets hold and what is allowed there. Octets are
+-- counted from the body's first. A field whose place, size or rule depends on the image's version is given it.
 -- Assumes nothing.
 use Prim.Native.Nat.{ℕ, _^_}
 use mathlib.Core.Bool.{Bool, false, cond, _&&_, _||_}

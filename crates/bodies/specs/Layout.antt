@@ -1,5 +1,5 @@
--- Document 01, 'The image', and document 02, request 2: where everything of an image stands. What differs from version to version is one record for each version, and
--- nothing else names its numbers; what every version has stands at the same places in each.
+-- Document 01, 'The image', and document 02, request 2: where everything of an image stands. What differs from version to version is one
+-- record for each version, and nothing else names its numbers; what every version has stands at the same places in each.
 -- Assumes nothing.
 use Prim.Native.Nat.{ℕ, _+_, _≤_}
 use mathlib.Core.Bool.{Bool, true, false, cond}

@@ -19,4 +19,5 @@ pub mod Unmarked
 pub mod Upgrade
 pub mod Used
 pub mod Valids
+pub mod Wear
 pub mod Witness

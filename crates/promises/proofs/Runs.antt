@@ -172,7 +172,7 @@ released-once (released n ∷ r) a = (released-above r n a n (omega arith), rele
 
 -- ---- the image
 
-ran-keeps : (vs : List Step) (x : State) → Inv x → Keeps x (ran x vs)
+pub ran-keeps : (vs : List Step) (x : State) → Inv x → Keeps x (ran x vs)
 unfolding ran
 ran-keeps [] x inv = record { inv = inv; stays = refl; same = same-refl (x .image) }
 ran-keeps (v ∷ vs) x inv =

@@ -1,12 +1,12 @@
 -- An image brought from version 1 to version 2 keeps its marks: no octet of a mark is octet 0 or the channel octet of a body.
 -- Assumes nothing.
-use Prim.Native.Nat.{ℕ, _+_, _*_, _<_}
+use Prim.Native.Nat.{ℕ, _+_, _*_}
 use mathlib.Core.Path.{_≡_, ap, _∙_}
 use mathlib.Core.List.{List}
 use native.Mathlib.Omega.{arith}
 use Rattle.octets.specs.Numbers.{numberAt}
 use Rattle.octets.proofs.Numbers.{numberAt-same}
-use Rattle.promises.specs.Images.{countIn, place, codeAt, Agreeing}
+use Rattle.promises.specs.Images.{countIn, place, codeAt}
 use Rattle.promises.specs.Upgrade.{Upgraded, Upgrading}
 
 module _ (before after : List ℕ) (u : Upgraded before after) where

@@ -32,7 +32,7 @@ use Rattle.link.specs.Said.{Said, kindSaid}
 use Rattle.promises.specs.Forms.{formOf}
 use Rattle.promises.specs.Images.{place, codeAt, lastAt, ServesChannel, BodyRules, ImageRules, Agreeing, Serves}
 use Rattle.promises.proofs.Fields.{service-at, kind-at, direction-at, state-at, spacecraft-at, channel-at, map-at, window-at}
-use Rattle.promises.proofs.Fields.{Places, places, stands, last-mask-at, mark-is, set-at}
+use Rattle.promises.proofs.Fields.{places, stands, last-mask-at, mark-is, set-at}
 use Rattle.promises.proofs.Forms.{Describes, described}
 use Rattle.promises.proofs.Readings.{form}
 

@@ -1,6 +1,6 @@
 -- The promises are not empty. Under both services and every kind there are two ends that meet the conditions of the round trip; every
--- answer but 9 is given; runs send and release; the same with TM associations of two channels, in version 2; and two images of different projects share an entry, or have none for a frame. All of it
--- by computing.
+-- answer is given; runs send and release, and one meets the bound on stores; the same with TM associations of two channels, in version 2;
+-- and two images of different projects share an entry, or have none for a frame. All of it by computing.
 -- Assumes nothing.
 use Prim.Native.Nat.{ℕ, _+_, _<_}
 use mathlib.Core.Path.{_≡_, refl, _∙_}
@@ -25,8 +25,10 @@ use Rattle.promises.specs.Cases.{allTrue, imageWith, imageOf, oneNumber,
 use Rattle.promises.specs.Frames.{dataInClear, spiOn, numberOn}
 use Rattle.promises.specs.Isolation.{Standing, both, neither, SameAnswer}
 use Rattle.promises.specs.RoundTrip.{Released}
-use Rattle.promises.specs.Runs.{Shown, load, send, check, sendCut, after, trace, shows, restart, sent, released, shownOf}
+use Rattle.promises.specs.Runs.{Shown, load, send, check, sendCut, after, ran, trace, shows, restart, sent, released, sentIn, begun}
+use Rattle.promises.specs.Runs.{shownOf}
 use Rattle.promises.specs.Upgrade.{Upgraded}
+use Rattle.promises.specs.Wear.{makes, makesUnder, accepts, storesIn, loadsIn, storesOf, framesOf, loadsOf}
 use Rattle.promises.proofs.Answers.{nobody}
 use Rattle.promises.proofs.Computing.{everything}
 use Rattle.promises.proofs.Isolation.{isolation}
@@ -215,6 +217,19 @@ sendingsOfSet service =
 pub run-sends-by-sets : (sendingsOfSet 1 ≡ sendingsShown) × (sendingsOfSet 2 ≡ sendingsShown)
 unfolding everything trace shows after
 run-sends-by-sets = (refl, refl)
+
+-- the bound on stores is met: by a run of two frames, three loads and a cut, which makes a store at each
+pub run-wears : let steps = send (saying 1) 9 frameC room ∷ load [] ∷ sendCut (saying 1) 9 frameC room 1 [] ∷ send (saying 1) 9 frameC room ∷ [] in
+    (storesOf 0 imageB [] steps ≡ 3) × (framesOf 0 imageB [] steps ≡ 2) × (loadsOf imageB [] steps ≡ 3)
+unfolding everything trace shows after makes makesUnder accepts storesIn loadsIn sentIn
+run-wears = (refl, refl, refl)
+
+-- and by 64 frames after one load, and one more sending that is cut after its store
+pub run-wears-on : let steps = replicate 64 (send (saying 1) 9 frameC room) in
+    let next = makesUnder 0 (ran (begun imageB) (load [] ∷ steps)) (sendCut (saying 1) 9 frameC room 1 []) in
+    (storesOf 0 imageB [] steps + length next ≡ 2) × (framesOf 0 imageB [] steps ≡ 64) × (loadsOf imageB [] steps ≡ 1)
+unfolding everything trace shows after makes makesUnder accepts storesIn loadsIn sentIn ran
+run-wears-on = (refl, refl, refl)
 
 -- the frame of the first sending, released at the other end
 abbrev releases : ℕ → Said → List ℕ → List Shown

@@ -1,6 +1,6 @@
--- Document 01, 'The image' and 'Managed numbers', and document 02, request 2, in the octets of an image: where each field of an entry stands, what a valid image is,
--- when numbers agree with it, and which entry serves a frame. The promises speak of an image in these words and not in those of the
--- definitions that they are about, so that a definition which reads another octet or drops a rule breaks a promise.
+-- Document 01, 'The image' and 'Managed numbers', and document 02, request 2, in the octets of an image: where each field of an entry
+-- stands, what a valid image is, when numbers agree with it, and which entry serves a frame. The promises speak of an image in these words
+-- and not in those of the definitions that they are about, so that a definition which reads another octet or drops a rule breaks a promise.
 -- Assumes nothing.
 use Prim.Native.Nat.{ℕ, _+_, _*_, _/_, _%_, _^_, _≤_, _<_}
 use mathlib.Core.Path.{_≡_}

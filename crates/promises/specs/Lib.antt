@@ -10,3 +10,4 @@ pub mod Refusals
 pub mod RoundTrip
 pub mod Runs
 pub mod Upgrade
+pub mod Wear
