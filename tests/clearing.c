@@ -68,7 +68,7 @@ static void prepare(unsigned service, unsigned key)
 {
     static const uint8_t header[] = {0x00, 27, 5 << 2, 0, 0};
     for (unsigned end = 0; end < 2; end++) {
-        struct table table = {.count = 1};
+        struct table table = {.version = 1, .count = 1};
         table.entries[0] = (struct association){.spi = SPI, .service = service, .kind = 1, .direction = end + 1, .state = 2,
                                                 .spacecraft = 27, .channel = 5, .window = 100, .mark = 0};
         key_of(key, table.entries[0].key);
