@@ -5,6 +5,7 @@ The answers are read off document 01 ('Frames', 'The image', 'What comes back') 
 
   python3 tools/frame_cases.py
 """
+import argparse
 import os
 
 TC_FIELDS = [("version", 2), ("bypass", 1), ("control", 1), ("spare", 2), ("spacecraft", 10), ("channel", 6), ("length", 10), ("sequence", 8)]
@@ -127,4 +128,5 @@ def main():
             stdout.write(line(number, secured, security, mask, frame) + "\n")
 
 
+argparse.ArgumentParser(description=__doc__, formatter_class=argparse.RawDescriptionHelpFormatter).parse_args()
 main()

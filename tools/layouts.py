@@ -7,6 +7,7 @@
 The same script gives the same octets everywhere. A label that does not fit in its box, two texts that overlap, and a header whose widths do
 not add up end it.
 """
+import argparse
 import os
 import sys
 
@@ -524,7 +525,7 @@ def layers():
 PICTURES = [tc_header, tc_segment_header, tm_header, aos_header, lambda: secured(1), lambda: secured(2), image, body, packed_result, layers]
 
 
-def main(arguments):
+def main(checking):
     folder = os.path.join(os.path.dirname(os.path.abspath(__file__)), "..", "docs", "layouts")
     os.makedirs(folder, exist_ok=True)
     wrong = 0
@@ -532,7 +533,7 @@ def main(arguments):
         picture = make()
         path = os.path.join(folder, picture.name + ".svg")
         drawn = picture.svg()
-        if arguments == ["--check"]:
+        if checking:
             if not os.path.exists(path) or open(path, encoding="utf-8").read() != drawn:
                 print(f"docs/layouts/{picture.name}.svg is not what tools/layouts.py draws")
                 wrong = 1
@@ -543,4 +544,6 @@ def main(arguments):
 
 
 if __name__ == "__main__":
-    sys.exit(main(sys.argv[1:]))
+    parser = argparse.ArgumentParser(description=__doc__, formatter_class=argparse.RawDescriptionHelpFormatter)
+    parser.add_argument("--check", action="store_true")
+    sys.exit(main(parser.parse_args().check))

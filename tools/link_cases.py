@@ -6,6 +6,7 @@ AES is OpenSSL's. Each call below states the answer that the paper gives it, and
 
   python3 tools/link_cases.py        (needs the Python package `cryptography`)
 """
+import argparse
 import os
 import random
 from dataclasses import dataclass, replace
@@ -917,4 +918,5 @@ def main():
             file.write("\n".join(lines) + "\n")
 
 
+argparse.ArgumentParser(description=__doc__, formatter_class=argparse.RawDescriptionHelpFormatter).parse_args()
 main()

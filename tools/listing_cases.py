@@ -5,6 +5,7 @@ The rules are read off document 01 ('The image', 'The listing program') and docu
 
   python3 tools/listing_cases.py
 """
+import argparse
 import os
 
 TITLE = "spi service kind direction state window next\n"
@@ -230,4 +231,5 @@ def main():
     put("listing", "stdout", listing(b).encode())
 
 
+argparse.ArgumentParser(description=__doc__, formatter_class=argparse.RawDescriptionHelpFormatter).parse_args()
 main()

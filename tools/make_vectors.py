@@ -15,9 +15,9 @@ a line for a vector, in hex, in the order of the publication:
 FIPS197A3.txt and FIPS197C3.txt are typed from the appendices of FIPS 197, and GCM13to16.txt from the test cases of the
 GCM specification; this script leaves them alone.
 """
+import argparse
 import pathlib
 import re
-import sys
 
 DATA = pathlib.Path(__file__).resolve().parent.parent / "crates" / "cipher_vectors" / "data"
 BLOCK = 32  # digits of a block
@@ -46,12 +46,9 @@ def write(name, made):
     print(f"{name}: {len(made)}")
 
 
-def main():
-    if len(sys.argv) != 2:
-        sys.exit(__doc__)
-
+def main(folder):
     def read(name):
-        return (pathlib.Path(sys.argv[1]) / name).read_text().replace("\r\n", "\n") + "\n"
+        return (folder / name).read_text().replace("\r\n", "\n") + "\n"
 
     for name in ECB:
         encrypt, decrypt = read(f"{name}.rsp").split("[ENCRYPT]")[1].split("[DECRYPT]")
@@ -62,4 +59,6 @@ def main():
     write("gcmEncryptExtIV256", records(read("gcmEncryptExtIV256-iv96-tag128.rsp"), ["Key", "IV", "PT", "AAD", "CT", "Tag"]))
 
 
-main()
+parser = argparse.ArgumentParser(description=__doc__, formatter_class=argparse.RawDescriptionHelpFormatter)
+parser.add_argument("folder", metavar="FOLDER", type=pathlib.Path)
+main(parser.parse_args().folder)

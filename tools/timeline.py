@@ -6,6 +6,7 @@
 
 What it shows is what examples/c/restarts.c does; the numbers are those of examples/restarts.txt.
 """
+import argparse
 import os
 import sys
 
@@ -85,22 +86,20 @@ def timeline():
     return p
 
 
-def main(arguments):
+def main(checking):
     picture = timeline()
     path = os.path.join(os.path.dirname(os.path.abspath(__file__)), "..", "docs", "layouts", picture.name + ".svg")
     drawn = picture.svg()
-    if arguments == []:
+    if not checking:
         with open(path, "w", encoding="utf-8") as out:
             out.write(drawn)
-        return 0
-    if arguments == ["--check"]:
-        if os.path.exists(path) and open(path, encoding="utf-8").read() == drawn:
-            return 0
+    elif not os.path.exists(path) or open(path, encoding="utf-8").read() != drawn:
         print("docs/layouts/restarts.svg is not what tools/timeline.py draws")
         return 1
-    print(__doc__.strip())
-    return 0 if arguments == ["--help"] else 2
+    return 0
 
 
 if __name__ == "__main__":
-    sys.exit(main(sys.argv[1:]))
+    parser = argparse.ArgumentParser(description=__doc__, formatter_class=argparse.RawDescriptionHelpFormatter)
+    parser.add_argument("--check", action="store_true")
+    sys.exit(main(parser.parse_args().check))
