@@ -454,7 +454,7 @@ def layers():
     p = Picture("layers", "The crates: each stands on those that its arrows point to")
     p.text(24, 26, p.title, 16, "start", "bold")
     p.note(46, "An arrow that follows from others is left out.", 24)
-    high, pitch, most = 48, 76, 8
+    high, pitch, most = 48, 76, 10
     boxes = {
         "octets": (24, 0, 686, FIXED, "lists of octets, numbers, copying, and their laws"),
         "substitution": (24, 1, 112, MAC, "S-box"),
@@ -472,10 +472,12 @@ def layers():
         "bodies": (522, 3, 188, NUMBER, "layouts, fields, rules"),
         "image": (522, 4, 188, NUMBER, "contents, the whole rule"),
         "association": (522, 5, 188, NUMBER, "numbers, search, entries"),
-        "protection": (24, 6, 566, DATA, "services, security header, the secured frame"),
-        "link": (24, 7, 566, DATA, "load, secure, check: judged, then carried out"),
-        "promises": (24, 8, 270, FREE, "theorems alone"),
-        "link_c": (320, 8, 270, FREE, "the C interface"),
+        "services": (24, 6, 320, DATA, "the two services, the security header"),
+        "protection": (24, 7, 566, DATA, "the secured frame"),
+        "judging": (24, 8, 566, DATA, "the tests of a call, in their order"),
+        "link": (24, 9, 566, DATA, "load, secure, check: judged, then carried out"),
+        "promises": (24, 10, 270, FREE, "theorems alone"),
+        "link_c": (320, 10, 270, FREE, "the C interface"),
         "listing_text": (606, 6, 104, FREE, "the lines"),
         "listing": (606, 7, 104, FREE, "the program"),
     }
@@ -488,8 +490,8 @@ def layers():
         "lines": (1, "lines of text for them"),
     }
     arrows = [
-        ("promises", "link", 159), ("link_c", "link", 455), ("listing", "listing_text", 658), ("link", "protection", 307),
-        ("protection", "cmac", 80), ("protection", "gcm", 244), ("protection", "frame", 437), ("protection", "association", 556),
+        ("promises", "link", 159), ("link_c", "link", 455), ("listing", "listing_text", 658), ("link", "judging", 307), ("judging", "protection", 307),
+        ("protection", "services", 184), ("protection", "frame", 437), ("services", "cmac", 80), ("services", "gcm", 244),
         ("listing_text", "association", 658), ("association", "image", 616), ("image", "bodies", 616), ("bodies", "kinds", 537),
         ("bodies", "marks", 638), ("frame", "kinds", 437), ("kinds", "headers", 437), ("gcm", "gctr", 194), ("gcm", "ghash", 298),
         ("gctr", "cipher", 170), ("gctr", "block", 219), ("ghash", "block", 298), ("cmac", "cipher", 80), ("cipher", "key_schedule", 80),
@@ -498,9 +500,10 @@ def layers():
     ]
     needed = stands_on()
     assert set(needed) == set(boxes) | set(programs), "crates.txt has other crates"
+    drawn = arrows + [("services", "association", 320)]
     for name in boxes:
-        assert needed[name] <= everything_below(name, arrows), f"an arrow is missing: {name}"
-        direct = {below for above, below, _ in arrows if above == name}
+        assert needed[name] <= everything_below(name, drawn), f"an arrow is missing: {name}"
+        direct = {below for above, below, _ in drawn if above == name}
         assert direct <= needed[name], f"an arrow too many: {name}"
 
     def top(row):
@@ -512,6 +515,8 @@ def layers():
         p.box(x, top(row), width, high, fill, [name, words], sizes=(14, 12.5))
     for above, below, x in arrows:
         p.arrow([(x, top(boxes[above][1]) + high), (x, top(boxes[below][1]) - 1)])
+    bend = top(boxes["services"][1]) + high + 12
+    p.arrow([(320, bend - 12), (320, bend), (616, bend), (616, top(boxes["association"][1]) - 1)])
     lab = "Dashed frame: with octets, what goes to the partner lab by itself. Nothing in it names a frame."
     p.text(24, top(0) + high + 24, lab, 12.5, "start", colour="#8a1c12")
     p.text(744, 58, "Aside: programs", 13, "start", "bold")

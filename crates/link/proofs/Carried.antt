@@ -15,14 +15,15 @@ use Rattle.marks.proofs.Made.{length-steps}
 use Rattle.image.proofs.ValidImages.{valid-laid}
 use Rattle.association.specs.declared.numbers.Numbers.{Numbers}
 use Rattle.octets.specs.Output.{written}
-use Rattle.link.specs.Answers.{Reported, reported, granted}
+use Rattle.judging.specs.Answers.{Reported, reported, granted}
 use Rattle.link.specs.Calls.{Left, leaving, left}
-use Rattle.link.specs.Replies.{Reply}
-use Rattle.link.specs.Steps.{outcome, judgement, Grants, Refuses}
-use Rattle.link.specs.declared.answers.Answer.{Answer}
-use Rattle.link.specs.declared.answers.Outcome.{Outcome}
-use Rattle.link.specs.declared.verdict.Grant.{Grant}
-use Rattle.link.proofs.Answered.{left-done, left-refused}
+use Rattle.judging.specs.Replies.{Reply}
+use Rattle.link.specs.Steps.{outcome}
+use Rattle.judging.specs.Verdicts.{judgement, Grants, Refuses}
+use Rattle.judging.specs.declared.answers.Answer.{Answer}
+use Rattle.link.specs.declared.outcome.Outcome.{Outcome}
+use Rattle.judging.specs.declared.verdict.Grant.{Grant}
+use Rattle.link.proofs.Leaving.{left-done, left-refused}
 
 -- ---- of a valid image the stores are as many as the mark of an entry has to rise
 

@@ -1,9 +1,4 @@
-pub mod Accepting
-pub mod Answered
 pub mod Carried
-pub mod First
-pub mod Granting
-pub mod Judging
-pub mod Searches
+pub mod Leaving
 pub mod Small
-pub mod Standings
+pub mod Under

@@ -26,15 +26,15 @@ use Rattle.association.specs.declared.held.Held.{Held}
 use Rattle.association.specs.declared.search.Wanted.{Wanted}
 use Rattle.association.proofs.Agreement.{accepted}
 use Rattle.association.proofs.LoadedNumbers.{agreed}
-use Rattle.link.specs.Calls.{Left, refused, done, left, loaded, securingWants, securingReply, secured}
-use Rattle.link.specs.Calls.{checkingWants, checkingReply, checkedAs, checked}
+use Rattle.judging.specs.Wants.{securingWants, checkingWants}
+use Rattle.link.specs.Calls.{Left, refused, done, left, loaded, securingReply, secured, checkingReply, checkedAs, checked}
 use Rattle.protection.specs.Protection.{textIn, numberIn, clearLength}
-use Rattle.link.specs.Replies.{Reply, seen, securing, checking}
-use Rattle.link.specs.Said.{Said, kindSaid}
-use Rattle.link.proofs.Answered.{secures, checks}
+use Rattle.judging.specs.Replies.{Reply, seen, securing, checking}
+use Rattle.judging.specs.Said.{Said, kindSaid}
+use Rattle.judging.proofs.Answered.{secures, checks}
 use Rattle.link.proofs.Carried.{counted}
-use Rattle.link.proofs.Judging.{number-under}
-use Rattle.link.proofs.Searches.{finds}
+use Rattle.link.proofs.Under.{number-under}
+use Rattle.judging.proofs.Searches.{finds}
 
 pub record Small (x : Left) : Type 0 where
   pub short : x .length ≤ 2048

@@ -11,12 +11,12 @@ use Rattle.image.specs.Image.{validImage}
 use Rattle.association.specs.Numbers.{loadedNumbers}
 use Rattle.association.specs.Search.{entryFor}
 use Rattle.marks.specs.Stores.{stored}
-use Rattle.association.specs.declared.search.Wanted.{Wanted}
-use Rattle.link.specs.Answers.{reported}
-use Rattle.protection.specs.Protection.{spiIn, macRight}
-use Rattle.link.specs.Replies.{seen, Reply, raising, securing, checking}
-use Rattle.link.specs.Said.{Said, kindSaid}
-use Rattle.link.specs.declared.answers.Outcome.{Outcome}
+use Rattle.protection.specs.Protection.{macRight}
+use Rattle.judging.specs.Answers.{reported}
+use Rattle.judging.specs.Replies.{seen, Reply, raising, securing, checking}
+use Rattle.judging.specs.Said.{Said, kindSaid}
+use Rattle.judging.specs.Wants.{securingWants, checkingWants}
+use Rattle.link.specs.declared.outcome.Outcome.{Outcome}
 
 -- ---- everything that a call leaves
 
@@ -67,25 +67,6 @@ cut r image j = cond (eqb (r .answer) 0) (stored image (take j (r .stores))) ima
 abbrev pub handed : Left → List ℕ
 handed x = take (x .length) (x .output)
 
--- ---- what a frame asks of an entry
-
-abbrev pub sending : ℕ
-sending = 1
-
-abbrev pub receiving : ℕ
-receiving = 2
-
-unfoldable pub wanted : ℕ → ℕ → Said → List ℕ → Wanted
-wanted spi direction said frame =
-    record {
-      spi = spi;
-      direction = direction;
-      kind = said .kind;
-      spacecraft = kindSaid said .spacecraft frame;
-      channel = kindSaid said .channel frame;
-      map = kindSaid said .map frame;
-    }
-
 -- ---- load: every load is a restart; it stores nothing
 
 unfoldable pub loaded : List ℕ → List ℕ → Left
@@ -95,9 +76,6 @@ loaded image last =
     (refused 1 image last [])
 
 -- ---- securing: image, numbers, what is said of the frame, SPI, clear frame, output
-
-abbrev pub securingWants : Said → ℕ → List ℕ → Wanted
-securingWants said spi frame = wanted spi sending said frame
 
 abbrev pub securingEntry : List ℕ → Said → ℕ → List ℕ → ℕ
 securingEntry image said spi frame = indexOf (entryFor image (securingWants said spi frame))
@@ -116,9 +94,6 @@ securedCut image last said spi frame output j =
     cut (securingReply image last said spi frame (length output)) image j
 
 -- ---- checking: image, numbers, what is said of the frame, secured frame, output
-
-abbrev pub checkingWants : Said → List ℕ → Wanted
-checkingWants said frame = wanted (spiIn (kindSaid said) frame) receiving said frame
 
 abbrev pub checkingEntry : List ℕ → Said → List ℕ → ℕ
 checkingEntry image said frame = indexOf (entryFor image (checkingWants said frame))

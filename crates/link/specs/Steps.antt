@@ -1,52 +1,20 @@
 -- What the module's inner functions do on the way through a call, for their own contracts. No definition of a call cites this file, and no
 -- promise does.
 -- Assumes nothing.
-use Prim.Native.Nat.{ℕ, _+_, _<_}
-use mathlib.Core.Path.{_≡_}
-use mathlib.Core.Bool.{Bool}
+use Prim.Native.Nat.{ℕ, _+_}
 use mathlib.Core.List.{List}
-use Rattle.kinds.specs.Kinds.{Kind, kindIs}
-use Rattle.kinds.specs.declared.kinds.Kind as code
-use Rattle.marks.specs.Stores.{storesOf}
-use Rattle.marks.specs.declared.plans.Store.{Store}
-use Rattle.association.specs.Association.{Association, associationOf, heldIn}
-use Rattle.association.specs.Search.{entryFor}
-use Rattle.association.specs.Stores.{storesFor}
-use Rattle.association.specs.declared.held.Held.{Held}
+use Rattle.kinds.specs.Kinds.{Kind}
+use Rattle.association.specs.Association.{associationOf, heldIn}
 use Rattle.association.specs.declared.numbers.Numbers.{Numbers}
-use Rattle.association.specs.declared.search.Found.the-variants as found
-use Rattle.association.specs.declared.search.Wanted.{Wanted}
 use Rattle.protection.specs.Protection.{securedLength, securedFrame, numberIn, macRight, clearLength, clearData}
-use Rattle.link.specs.Answers.{reported, refusal, first}
-use Rattle.link.specs.Replies.{seen, Reply, raising, frontTests, sendingTests, receivingTests}
-use Rattle.link.specs.Said.{Said, kindSaid}
-use Rattle.link.specs.declared.answers.Answer.{Answer}
-use Rattle.link.specs.declared.answers.Outcome.{Outcome}
-use Rattle.link.specs.declared.admission.Admission.{Admission}
-use Rattle.link.specs.declared.admission.Admission.the-variants as admission
-use Rattle.link.specs.declared.verdict.Grant.{Grant}
-use Rattle.link.specs.declared.verdict.Verdict.{Verdict}
-use Rattle.link.specs.declared.verdict.Verdict.the-variants as verdict
+use Rattle.judging.specs.Answers.{first}
+use Rattle.judging.specs.Replies.{Reply, raising, sendingTests, receivingTests}
+use Rattle.judging.specs.declared.answers.Answer.{Answer}
+use Rattle.link.specs.declared.outcome.Outcome.{Outcome}
 
 -- an answer, and the numbers that come back with it
 abbrev pub outcome : Answer → Numbers → Outcome
 outcome a numbers = record { answer = a; numbers = numbers }
-
-pub record Refuses (a : Answer) (n : ℕ) : Type 0 where
-  pub answer : reported a ≡ refusal n
-  pub some : 0 < n
-
--- ---- past the tests that come first: the frame's kind, and the entry that it matches
-
-pub record Admits (image last : List ℕ) (w : Wanted) (said : Said) (secured : Bool) (frame : List ℕ) (kind : code.Kind) (e : ℕ) : Type 0 where
-  pub answer : first (frontTests (seen image last w) (kindSaid said) frame secured) ≡ 0
-  pub kinds : kindIs kind ≡ kindSaid said
-  pub entry : entryFor image w ≡ found.At e
-
-abbrev pub Admitted : Admission → List ℕ → List ℕ → Wanted → Said → Bool → List ℕ → Type 0
-Admitted (admission.To kind e) image last w said secured frame = Admits image last w said secured frame kind e
-Admitted (admission.Refused a) image last w said secured frame =
-    Refuses a (first (frontTests (seen image last w) (kindSaid said) frame secured))
 
 -- ---- under entry e: the reply, from what its association holds and from its last number
 
@@ -73,46 +41,3 @@ receivingReply image last e k frame room =
       size = clearLength h k frame;
       result = clearData h k frame;
     })
-
--- ---- a verdict: the reply but for its result
-
-pub record Judgement : Type 0 where
-  pub answer : ℕ
-  pub entry : ℕ
-  pub number : ℕ
-  pub stores : List Store
-  pub size : ℕ
-
-abbrev pub judgement : Reply → Judgement
-judgement q = record { answer = q .answer; entry = q .entry; number = q .number; stores = q .stores; size = q .size }
-
-abbrev pub sendingJudged : List ℕ → ℕ → Held → ℕ → Kind → List ℕ → ℕ → Judgement
-sendingJudged image e h last k frame room =
-    record {
-      answer = first (sendingTests h last k frame room);
-      entry = e;
-      number = last + 1;
-      stores = storesFor image e (last + 1);
-      size = securedLength h frame;
-    }
-
-abbrev pub receivingJudged : List ℕ → ℕ → Held → ℕ → Kind → List ℕ → ℕ → Judgement
-receivingJudged image e h last k frame room =
-    record {
-      answer = first (receivingTests h last (macRight h k frame) k frame room);
-      entry = e;
-      number = numberIn h k frame;
-      stores = storesFor image e (numberIn h k frame);
-      size = clearLength h k frame;
-    }
-
-pub record Grants (g : Grant) (j : Judgement) : Type 0 where
-  pub answer : j .answer ≡ 0
-  pub entry : g .entry ≡ j .entry
-  pub number : g .number ≡ j .number
-  pub stores : storesOf (g .plan) ≡ j .stores
-  pub size : g .size ≡ j .size
-
-abbrev pub Judged : Verdict → Judgement → Type 0
-Judged (verdict.Granted g) j = Grants g j
-Judged (verdict.Refused a) j = Refuses a (j .answer)

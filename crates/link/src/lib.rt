@@ -1,31 +1,24 @@
 // Document 01: the link security module. It secures and checks TC, TM and AOS transfer frames under the associations of an image. Each call is
 // what its definition of specs/Calls says: the answer, the numbers that come back, and every octet of the image and the output at its return.
 // The caller keeps the image in memory that outlives a failure of power, and hands the numbers of one call to the next.
-mod admission;
-mod answers;
 mod checking;
+mod outcome;
 mod securing;
-mod verdict;
-mod wanted;
-mod window;
 
-use admission::Admission;
-use admission::admit;
-use answers::refused;
 use association::Numbers;
 use association::Standing;
 use checking::check_under;
-use checking::spi_on;
-use kinds::kind_of;
+use judging::Admission;
+use judging::admit_receiving;
+use judging::admit_sending;
+use outcome::refused;
 use securing::secure_under;
-use wanted::RECEIVING;
-use wanted::SENDING;
 ghost use mathlib.Core.List.{[]};
 ghost use mathlib.Core.Path.{_≡_};
+ghost use Rattle.judging.specs.Said.{saying};
 ghost use Rattle.link.specs.Calls.{leaving, loaded, secured, checked};
-ghost use Rattle.link.specs.Said.{saying};
-pub use answers::Answer;
-pub use answers::Outcome;
+pub use judging::Answer;
+pub use outcome::Outcome;
 
 // A load accepts an image and gives the numbers that its marks stand for. It stores nothing.
 pub fn load(image: &[u8], numbers: Numbers) -> Outcome
@@ -55,8 +48,7 @@ pub fn secure(
 ) -> Outcome
     ensures { λ r. ⌜ leaving r (now (image .exit)) (now (output .exit)) ≡ secured (now (image .entry)) (numbers .last) (saying kind) spi (now (frame .entry)) (now (output .entry)) ⌝ }
 {
-    let asked = kind_of(kind);
-    let admission = admit(image, numbers, kind, asked, spi, SENDING, frame, false);
+    let admission = admit_sending(image, numbers, kind, spi, frame);
     match admission {
         Admission::Refused(answer) => refused(answer, numbers),
         Admission::To(kind, entry) => {
@@ -75,9 +67,7 @@ pub fn check(
 ) -> Outcome
     ensures { λ r. ⌜ leaving r (now (image .exit)) (now (output .exit)) ≡ checked (now (image .entry)) (numbers .last) (saying kind) (now (frame .entry)) (now (output .entry)) ⌝ }
 {
-    let asked = kind_of(kind);
-    let spi = spi_on(asked, frame);
-    let admission = admit(image, numbers, kind, asked, spi, RECEIVING, frame, true);
+    let admission = admit_receiving(image, numbers, kind, frame);
     match admission {
         Admission::Refused(answer) => refused(answer, numbers),
         Admission::To(kind, entry) => check_under(image, numbers, kind, entry, frame, output),

@@ -1,19 +1,15 @@
-// Document 01, 'What comes back': a clear frame under the entry that matches, 11, 6 and 10 in the paper's order, and how it goes out.
-use crate::answers::Answer;
-use crate::answers::Outcome;
-use crate::answers::refused;
-use crate::verdict::Grant;
-use crate::verdict::Verdict;
-use crate::verdict::carried_out;
+// A clear frame under the entry that it matches: judged, and then it goes out secured.
+use crate::outcome::Outcome;
+use crate::outcome::carried_out;
+use crate::outcome::refused;
 use association::Held;
 use association::Numbers;
 use association::held_at;
-use association::plan_for;
-use frame::exceeds;
-use frame::secured_length;
+use judging::Grant;
+use judging::Verdict;
+use judging::judge_sending;
 use kinds::Kind;
 use marks::make_all;
-use protection::security_length;
 use protection::write_secured;
 ghost use mathlib.Core.Path.{_≡_};
 ghost use mathlib.Core.Bool.{true, false};
@@ -24,43 +20,9 @@ ghost use Rattle.frame.specs.Rules.{obeys};
 ghost use Rattle.marks.specs.Stores.{storesIn};
 ghost use Rattle.protection.specs.Protection.{securedFrame};
 ghost use Rattle.protection.specs.Steps.{Securable};
-ghost use Rattle.link.specs.Answers.{reported, granted};
+ghost use Rattle.judging.specs.Answers.{reported, granted};
 ghost use Rattle.link.specs.Calls.{leaving, left};
-ghost use Rattle.link.specs.Steps.{Judged, sendingJudged, sendingReply};
-
-const GREATEST: u32 = 4294967295;
-
-// Whether a frame is secured, under what its association holds and after the last number used. Nothing is changed.
-fn judge_sending(
-    image: &[u8],
-    entry: u8,
-    held: Held,
-    last: u32,
-    kind: Kind,
-    frame: &[u8],
-    room: usize,
-) -> Verdict
-    ensures { λ r. ⌜ Judged r (sendingJudged (now (image .entry)) entry held last (kindIs kind) (now (frame .entry)) room) ⌝ }
-{
-    let security = security_length(held.service);
-    let size = secured_length(security, frame);
-    if exceeds(kind, security, frame) {
-        return Verdict::Refused(Answer::TooLong);
-    }
-    if room < size {
-        return Verdict::Refused(Answer::NoRoom);
-    }
-    if last == GREATEST {
-        return Verdict::Refused(Answer::NumbersSpent);
-    }
-    let number = last + 1;
-    Verdict::Granted(Grant {
-        entry,
-        number,
-        plan: plan_for(image, entry, number),
-        size,
-    })
-}
+ghost use Rattle.link.specs.Steps.{sendingReply};
 
 // The frame goes out behind its stores: `made` is how many of them were made, and has to be all.
 fn hand_out(

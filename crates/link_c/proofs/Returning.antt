@@ -7,9 +7,9 @@ use mathlib.Core.List.{List}
 use borrow.Author.Tests.{eq-eqb, ne-eqb}
 use lib.ListN.{length}
 use Rattle.image.specs.Image.{validImage}
-use Rattle.link.specs.Answers.{reported}
+use Rattle.judging.specs.Answers.{reported}
 use Rattle.link.specs.Calls.{Left, leaving}
-use Rattle.link.specs.declared.answers.Outcome.{Outcome}
+use Rattle.link.specs.declared.outcome.Outcome.{Outcome}
 use Rattle.link_c.specs.Interface.{word, packed, counted, Returned}
 
 -- `call` is the module's call as a function of the numbers

@@ -9,7 +9,7 @@ use lib.Dec.{eqb}
 use lib.ListN.{length}
 use Rattle.image.specs.Image.{validImage}
 use Rattle.link.specs.Calls.{Left, loaded, secured, checked}
-use Rattle.link.specs.Said.{Said}
+use Rattle.judging.specs.Said.{Said}
 use Rattle.link.proofs.Small.{Small, small-refused, small-either, loaded-small, secured-small, checked-small}
 use Rattle.link_c.specs.Interface.{counted, loadCall, secureCall, checkCall, Unpacked}
 

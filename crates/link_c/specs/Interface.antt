@@ -9,7 +9,7 @@ use lib.Dec.{eqb}
 use lib.ListN.{length}
 use Rattle.image.specs.Image.{validImage}
 use Rattle.link.specs.Calls.{Left, refused, loaded, secured, checked}
-use Rattle.link.specs.Said.{Said}
+use Rattle.judging.specs.Said.{Said}
 
 -- ---- the returned number: bits 0 to 31 hold the length of the result, 32 to 39 the stores, 40 to 47 the answer's number
 

@@ -10,7 +10,7 @@ use packing::pack;
 ghost use mathlib.Core.List.{[]};
 ghost use mathlib.Core.Path.{_≡_};
 ghost use Rattle.association.specs.Stores.{storesMade, afterStores};
-ghost use Rattle.link.specs.Said.{saying};
+ghost use Rattle.judging.specs.Said.{saying};
 ghost use Rattle.link_c.specs.Interface.{Returned, loadCall, secureCall, checkCall};
 
 // A restart.

@@ -1,7 +1,7 @@
 // What a call reports, in one number: bits 0 to 31 hold the length, 32 to 39 the stores, and 40 to 47 the answer's number of the paper's table.
 use link::Answer;
 ghost use mathlib.Core.Path.{_≡_};
-ghost use Rattle.link.specs.Answers.{reported};
+ghost use Rattle.judging.specs.Answers.{reported};
 ghost use Rattle.link_c.specs.Interface.{word};
 
 fn word(number: u8, length: usize, stores: u32) -> u64

@@ -25,16 +25,19 @@ use Rattle.association.specs.declared.held.Held.{Held}
 use Rattle.association.specs.declared.search.Wanted.{Wanted}
 use Rattle.association.proofs.Agreement.{accepted}
 use Rattle.image.proofs.ValidImages.{valid, spi-once}
-use Rattle.link.specs.Answers.{Reported, reported, Test, first}
-use Rattle.link.specs.Calls.{Left, refused, wanted, loaded, securingReply, secured}
-use Rattle.link.specs.Calls.{checkingWants, comparison, checkingReply, checkedAs, checked}
-use Rattle.protection.specs.Protection.{securityLength, securedLength, numberIn, textIn, macRight, clearLength}
-use Rattle.link.specs.Replies.{seen, securingTests, securing, checkingTests, checking}
-use Rattle.link.specs.Said.{Said, kindSaid}
-use Rattle.link.specs.declared.answers.Answer.{Answer}
-use Rattle.link.specs.declared.answers.Answer.the-variants as answer
-use Rattle.link.proofs.Answered.{left-answer}
-use Rattle.link.proofs.Searches.{Finds, finds, finds-none}
+use Rattle.judging.specs.Answers.{Reported, reported, Test, first}
+use Rattle.judging.specs.Wants.{wanted}
+use Rattle.link.specs.Calls.{Left, refused, loaded, securingReply, secured}
+use Rattle.judging.specs.Wants.{checkingWants}
+use Rattle.link.specs.Calls.{comparison, checkingReply, checkedAs, checked}
+use Rattle.services.specs.SecurityHeader.{securityLength}
+use Rattle.protection.specs.Protection.{securedLength, numberIn, textIn, macRight, clearLength}
+use Rattle.judging.specs.Replies.{seen, securingTests, securing, checkingTests, checking}
+use Rattle.judging.specs.Said.{Said, kindSaid}
+use Rattle.judging.specs.declared.answers.Answer.{Answer}
+use Rattle.judging.specs.declared.answers.Answer.the-variants as answer
+use Rattle.link.proofs.Leaving.{left-answer}
+use Rattle.judging.proofs.Searches.{Finds, finds, finds-none}
 use Rattle.promises.specs.Answers.{reporting, Rules, rule, noMore, reportOf, Gives, Exactly}
 use Rattle.promises.specs.Answers.{loadRules, securingRules, checkingRules, Answering}
 use Rattle.promises.specs.Frames.{FrameRules, securitySize, spiOn, numberOn, textOn, macOn, rightMac}

@@ -17,11 +17,12 @@ use Rattle.association.specs.Numbers.{loadedNumbers, agrees}
 use Rattle.association.specs.Search.{bodyServes, matches, firstFrom, entryFor}
 use Rattle.marks.specs.Stores.{steps, stored}
 use Rattle.association.specs.Stores.{planFor, afterStores}
-use Rattle.link.specs.Answers.{first}
-use Rattle.link.specs.Calls.{wanted, loaded, securingReply, secured, securedCut, checkingReply, checkedAs, checkedCutAs}
+use Rattle.judging.specs.Answers.{first}
+use Rattle.judging.specs.Wants.{wanted}
+use Rattle.link.specs.Calls.{loaded, securingReply, secured, securedCut, checkingReply, checkedAs, checkedCutAs}
 use Rattle.protection.specs.Protection.{securedFrame, fieldIn, textIn, numberIn, clearLength}
-use Rattle.link.specs.Replies.{seen, securingTests, securing, checkingTests, checking}
-use Rattle.protection.specs.Services.{service}
+use Rattle.judging.specs.Replies.{seen, securingTests, securing, checkingTests, checking}
+use Rattle.services.specs.Services.{service}
 use Rattle.promises.specs.Forms.{formOf}
 use Rattle.promises.specs.Cases.{imageWith, securedC, clearTc, room}
 

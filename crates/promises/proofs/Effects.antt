@@ -20,9 +20,9 @@ use Rattle.association.proofs.LoadedNumbers.{agreed}
 use Rattle.image.proofs.ValidImages.{valid}
 use Rattle.link.specs.Calls.{Left, handed, left, cut, loaded, securingEntry, securingReply, secured, securedCut}
 use Rattle.link.specs.Calls.{comparison, checkingReply, checkingEntry, checkedAs, checked, checkedCutAs, checkedCut}
-use Rattle.link.specs.Replies.{Reply}
-use Rattle.link.specs.Said.{Said}
-use Rattle.link.proofs.Answered.{left-answer, left-done, left-refused, cut-done, cut-refused}
+use Rattle.judging.specs.Replies.{Reply}
+use Rattle.judging.specs.Said.{Said}
+use Rattle.link.proofs.Leaving.{left-answer, left-done, left-refused, cut-done, cut-refused}
 use Rattle.promises.specs.Frames.{spiOn, numberOn}
 use Rattle.promises.specs.Images.{countIn, spiAt, serviceAt, directionAt, lastAt}
 use Rattle.promises.specs.Runs.{Step, load, send, check, sendCut, checkCut, State, kept, after, Shown, restart, sent, released, shows}

@@ -17,14 +17,16 @@ use Rattle.association.specs.declared.search.Wanted.{Wanted}
 use Rattle.association.proofs.Finding.{found-matching}
 use Rattle.image.proofs.Places.{key-body}
 use Rattle.image.proofs.ValidImages.{valid}
-use Rattle.link.specs.Calls.{left, wanted, securingReply, securingEntry, secured}
+use Rattle.judging.specs.Wants.{wanted}
+use Rattle.link.specs.Calls.{left, securingReply, securingEntry, secured}
 use Rattle.link.specs.Calls.{comparison, checkingReply, checkingEntry, checkedAs, checked}
 use Rattle.protection.specs.Protection.{spiIn, macRight}
-use Rattle.link.specs.Replies.{seen, Decision, raising, securing, checking}
-use Rattle.link.specs.Said.{Said, kindSaid}
-use Rattle.link.proofs.Answered.{secures, checks, left-done, left-refused, handed-result, securing-size, checking-size}
+use Rattle.judging.specs.Replies.{seen, Decision, raising, securing, checking}
+use Rattle.judging.specs.Said.{Said, kindSaid}
+use Rattle.judging.proofs.Answered.{secures, checks, securing-size, checking-size}
+use Rattle.link.proofs.Leaving.{left-done, left-refused, handed-result}
 use Rattle.link.proofs.Carried.{counted}
-use Rattle.link.proofs.Searches.{finds-at, finds, none-found}
+use Rattle.judging.proofs.Searches.{finds-at, finds, none-found}
 use Rattle.octets.specs.Lists.{part}
 use Rattle.promises.specs.Images.{Serves}
 use Rattle.promises.specs.Isolation.{Standing, SameEntry, both, neither, SameAnswer, Isolation}

@@ -13,8 +13,8 @@ use Rattle.association.specs.Numbers.{loadedNumbers}
 use Rattle.association.proofs.LoadedNumbers.{length-loaded, loaded-entry, loaded-none, load-agrees}
 use Rattle.image.proofs.ValidImages.{valid}
 use Rattle.link.specs.Calls.{refused, done, loaded, secured, checked}
-use Rattle.link.specs.Replies.{Reply}
-use Rattle.link.specs.Said.{Said}
+use Rattle.judging.specs.Replies.{Reply}
+use Rattle.judging.specs.Said.{Said}
 use Rattle.promises.specs.Frames.{spiOn}
 use Rattle.promises.specs.Images.{countIn, spiAt}
 use Rattle.promises.specs.Leaves.{Leaves, Loaded, Sending, Checking, Leaving}

@@ -11,12 +11,14 @@ use Rattle.frame.specs.Parts.{tooShort}
 use Rattle.frame.specs.Rules.{obeys}
 use Rattle.association.specs.Association.{heldIn, isNone, theOne}
 use Rattle.association.specs.Numbers.{accepts}
-use Rattle.protection.specs.Protection.{securityLength, numberIn, clearLength}
-use Rattle.link.specs.Answers.{Test, first}
-use Rattle.link.specs.Calls.{checkingWants, comparison, checkingReply, checkedAs, checked}
-use Rattle.link.specs.Replies.{seen, checkingTests, checking}
-use Rattle.link.specs.Said.{Said, kindSaid}
-use Rattle.link.proofs.Answered.{left-answer}
+use Rattle.services.specs.SecurityHeader.{securityLength}
+use Rattle.protection.specs.Protection.{numberIn, clearLength}
+use Rattle.judging.specs.Answers.{Test, first}
+use Rattle.judging.specs.Wants.{checkingWants}
+use Rattle.link.specs.Calls.{comparison, checkingReply, checkedAs, checked}
+use Rattle.judging.specs.Replies.{seen, checkingTests, checking}
+use Rattle.judging.specs.Said.{Said, kindSaid}
+use Rattle.link.proofs.Leaving.{left-answer}
 use Rattle.promises.specs.NoPadding.{NeverNine}
 
 -- no test of a list gives a number that is none of theirs

@@ -19,9 +19,10 @@ use Rattle.frame.specs.Parts.{headerOf, clearContent, securityOf, securedConten
 use Rattle.frame.specs.Rules.{least, obeys}
 use Rattle.frame.proofs.Room.{obeyed, obeying}
 use Rattle.association.specs.declared.held.Held.{Held}
-use Rattle.protection.specs.Protection.{securityLength, coveredBefore, spiIn, fieldIn, textIn, numberIn, macRight}
-use Rattle.protection.specs.Services.{authentication, authenticatedEncryption, service}
-use Rattle.link.specs.Said.{Said, kindSaid}
+use Rattle.services.specs.SecurityHeader.{securityLength}
+use Rattle.protection.specs.Protection.{coveredBefore, spiIn, fieldIn, textIn, numberIn, macRight}
+use Rattle.services.specs.Services.{authentication, authenticatedEncryption, service}
+use Rattle.judging.specs.Said.{Said, kindSaid}
 use Rattle.protection.proofs.Wire.{number-read}
 use Rattle.promises.specs.Forms.{formSaid, underMask}
 use Rattle.promises.specs.Frames.{headerSize, trailerSize, dataInClear, fieldSize, securitySize, spiOn, fieldOn, numberOn}

@@ -10,8 +10,8 @@ use Rattle.image.specs.Image.{validImage}
 use Rattle.association.specs.Numbers.{loadedNumbers}
 use Rattle.link.specs.Calls.{refused, left, cut, loaded, securingReply, secured, securedCut}
 use Rattle.link.specs.Calls.{comparison, checkingReply, checkedAs, checked, checkedCutAs, checkedCut}
-use Rattle.link.specs.Replies.{Reply}
-use Rattle.link.proofs.Answered.{left-answer, left-refused, cut-refused}
+use Rattle.judging.specs.Replies.{Reply}
+use Rattle.link.proofs.Leaving.{left-answer, left-refused, cut-refused}
 use Rattle.promises.specs.Refusals.{Untouched, Refusals}
 
 untouched : (answer : ℕ) (image numbers output : List ℕ) → Untouched image numbers output (refused answer image numbers output)

@@ -10,13 +10,15 @@ use Rattle.image.specs.Image.{countOf, spiOf}
 use Rattle.association.specs.Stores.{afterStores}
 use Rattle.marks.specs.declared.plans.Store.{Store}
 use Rattle.marks.specs.Stores.{stored}
-use Rattle.link.specs.Calls.{handed, done, checkingWants, checkingEntry, comparison, checkingReply}
+use Rattle.judging.specs.Wants.{checkingWants}
+use Rattle.link.specs.Calls.{handed, done, checkingEntry, comparison, checkingReply}
 use Rattle.link.specs.Calls.{checkedAs, checked, checkedCutAs, checkedCut}
 use Rattle.protection.specs.Protection.{fieldIn, textIn, clearData}
-use Rattle.link.specs.Replies.{seen, Reply, checking}
-use Rattle.link.specs.Said.{Said, kindSaid}
-use Rattle.link.proofs.Answered.{Checks, checks, left-answer, left-done, handed-result, cut-done}
-use Rattle.link.proofs.Searches.{finds}
+use Rattle.judging.specs.Replies.{seen, Reply, checking}
+use Rattle.judging.specs.Said.{Said, kindSaid}
+use Rattle.judging.proofs.Answered.{Checks, checks}
+use Rattle.link.proofs.Leaving.{left-answer, left-done, handed-result, cut-done}
+use Rattle.judging.proofs.Searches.{finds}
 use Rattle.promises.specs.Frames.{spiOn, numberOn, fieldOn, textOn, comingIn}
 use Rattle.promises.specs.Images.{serviceAt, keyAt}
 use Rattle.promises.proofs.Fields.{service-at, key-at}

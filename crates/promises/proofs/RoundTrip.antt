@@ -18,12 +18,14 @@ use Rattle.association.specs.declared.held.Held.{Held}
 use Rattle.association.specs.declared.search.Wanted.{Wanted}
 use Rattle.association.proofs.Finding.{found-matching}
 use Rattle.image.proofs.ValidImages.{valid}
-use Rattle.link.specs.Calls.{handed, done, secured, checkingWants, comparison, checkingReply, checkedAs, checked}
+use Rattle.judging.specs.Wants.{checkingWants}
+use Rattle.link.specs.Calls.{handed, done, secured, comparison, checkingReply, checkedAs, checked}
 use Rattle.protection.specs.Protection.{securedLength, securedFrame, numberIn, clearData, clearLength}
-use Rattle.link.specs.Replies.{seen, Reply, checking}
-use Rattle.link.specs.Said.{Said, kindSaid}
-use Rattle.link.proofs.Answered.{Checks, checks-zero, checking-size, left-done, handed-result}
-use Rattle.link.proofs.Searches.{Finds, finds-at}
+use Rattle.judging.specs.Replies.{seen, Reply, checking}
+use Rattle.judging.specs.Said.{Said, kindSaid}
+use Rattle.judging.proofs.Answered.{Checks, checks-zero, checking-size}
+use Rattle.link.proofs.Leaving.{left-done, handed-result}
+use Rattle.judging.proofs.Searches.{Finds, finds-at}
 use Rattle.protection.proofs.Wire as wire
 use Rattle.promises.specs.Frames as words
 use Rattle.promises.specs.Images.{countIn, spiAt, serviceAt, windowAt, lastAt, ImageRules, Agreeing, InWindow, Serves}

@@ -21,12 +21,15 @@ use Rattle.marks.specs.declared.plans.Store.{Store}
 use Rattle.marks.specs.Stores.{stored}
 use Rattle.image.proofs.ValidImages.{valid}
 use Rattle.association.specs.declared.held.Held.{Held}
-use Rattle.link.specs.Calls.{handed, done, securingWants, securingEntry, securingReply, secured, securedCut}
-use Rattle.protection.specs.Protection.{serviceIn, securedLength, securedFrame}
-use Rattle.link.specs.Replies.{seen, Reply, securing}
-use Rattle.link.specs.Said.{Said, kindSaid}
-use Rattle.link.proofs.Answered.{Secures, secures, left-answer, left-done, handed-result, cut-done}
-use Rattle.link.proofs.Searches.{finds}
+use Rattle.judging.specs.Wants.{securingWants}
+use Rattle.link.specs.Calls.{handed, done, securingEntry, securingReply, secured, securedCut}
+use Rattle.services.specs.SecurityHeader.{serviceIn}
+use Rattle.protection.specs.Protection.{securedLength, securedFrame}
+use Rattle.judging.specs.Replies.{seen, Reply, securing}
+use Rattle.judging.specs.Said.{Said, kindSaid}
+use Rattle.judging.proofs.Answered.{Secures, secures}
+use Rattle.link.proofs.Leaving.{left-answer, left-done, handed-result, cut-done}
+use Rattle.judging.proofs.Searches.{finds}
 use Rattle.protection.proofs.Wire as wire
 use Rattle.promises.specs.Forms.{formSaid}
 use Rattle.promises.specs.Frames as words

@@ -20,9 +20,9 @@ use Rattle.association.proofs.Agreement.{still-agrees}
 use Rattle.association.proofs.LoadedNumbers.{agreed}
 use Rattle.octets.proofs.Outside.{Outside}
 use Rattle.link.specs.Calls.{done}
-use Rattle.link.specs.Replies.{Reply}
-use Rattle.link.specs.Said.{Said}
-use Rattle.link.proofs.Answered.{handed-result}
+use Rattle.judging.specs.Replies.{Reply}
+use Rattle.judging.specs.Said.{Said}
+use Rattle.link.proofs.Leaving.{handed-result}
 use Rattle.promises.specs.Images.{place, lastAt}
 use Rattle.promises.specs.Leaves.{MarkAlone, Leaves}
 use Rattle.promises.proofs.Fields.{mark-place}

@@ -13,13 +13,14 @@ use Rattle.association.specs.Numbers.{greatest, agrees, accepts}
 use Rattle.association.specs.Stores.{storesFor}
 use Rattle.association.proofs.Agreement.{Accepted, accepted}
 use Rattle.image.proofs.ValidImages.{valid, spi-once}
-use Rattle.link.specs.Calls.{securingWants, securingEntry, securingReply, checkingWants, checkingEntry, checkingReply}
+use Rattle.judging.specs.Wants.{securingWants, checkingWants}
+use Rattle.link.specs.Calls.{securingEntry, securingReply, checkingEntry, checkingReply}
 use Rattle.protection.specs.Protection.{numberIn}
-use Rattle.link.specs.Replies.{seen, Reply, securing, checking}
-use Rattle.link.specs.Said.{Said, kindSaid}
-use Rattle.link.proofs.Answered.{secures, checks, securing-size, checking-size}
+use Rattle.judging.specs.Replies.{seen, Reply, securing, checking}
+use Rattle.judging.specs.Said.{Said, kindSaid}
+use Rattle.judging.proofs.Answered.{secures, checks, securing-size, checking-size}
 use Rattle.link.proofs.Carried.{counted}
-use Rattle.link.proofs.Searches.{finds}
+use Rattle.judging.proofs.Searches.{finds}
 use Rattle.link.proofs.Small.{window-small}
 use Rattle.promises.specs.Frames.{spiOn, numberOn}
 use Rattle.promises.specs.Images.{serviceAt, lastAt, Serves}

@@ -27,8 +27,8 @@ use Rattle.marks.proofs.GrayCode.{gray-lt, gray-below, gray-ungray, ungray-gray
 use Rattle.association.proofs.LoadedNumbers.{agreed, agreeing}
 use Rattle.bodies.proofs.ValidBodies.{ValidBody}
 use Rattle.image.proofs.ValidImages.{Valid, valid, spi-rises}
-use Rattle.link.specs.Calls.{wanted}
-use Rattle.link.specs.Said.{Said, kindSaid}
+use Rattle.judging.specs.Wants.{wanted}
+use Rattle.judging.specs.Said.{Said, kindSaid}
 use Rattle.promises.specs.Forms.{formOf}
 use Rattle.promises.specs.Images.{place, codeAt, lastAt, ServesChannel, BodyRules, ImageRules, Agreeing, Serves}
 use Rattle.promises.proofs.Fields.{service-at, kind-at, direction-at, state-at, spacecraft-at, channel-at, map-at, window-at}

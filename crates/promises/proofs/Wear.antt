@@ -18,9 +18,9 @@ use Rattle.marks.specs.Stores.{stored}
 use Rattle.association.proofs.LoadedNumbers.{agreed}
 use Rattle.link.specs.Calls.{refused, done, left, cut, loaded, securingEntry, securingReply, secured, securedCut}
 use Rattle.link.specs.Calls.{comparison, checkingReply, checkingEntry, checkedAs, checked, checkedCutAs, checkedCut}
-use Rattle.link.specs.Replies.{Reply}
-use Rattle.link.specs.Said.{Said}
-use Rattle.link.proofs.Answered.{left-answer}
+use Rattle.judging.specs.Replies.{Reply}
+use Rattle.judging.specs.Said.{Said}
+use Rattle.link.proofs.Leaving.{left-answer}
 use Rattle.promises.specs.Frames.{spiOn}
 use Rattle.promises.specs.Images.{countIn, spiAt, directionAt, lastAt}
 use Rattle.promises.specs.Runs.{Step, load, send, check, sendCut, checkCut, State, kept, after, ran}

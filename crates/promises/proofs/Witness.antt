@@ -19,8 +19,8 @@ use Rattle.image.specs.Image.{bodyOf, validImage}
 use Rattle.association.specs.Numbers.{agrees}
 use Rattle.association.specs.Search.{servesChannel}
 use Rattle.link.specs.Calls.{handed, loaded, secured, checkedAs, checked}
-use Rattle.protection.specs.Services.{service}
-use Rattle.link.specs.Said.{Said, saying, kindSaid}
+use Rattle.services.specs.Services.{service}
+use Rattle.judging.specs.Said.{Said, saying, kindSaid}
 use Rattle.promises.specs.Cases.{allTrue, imageWith, imageOf, oneNumber, frameC, frameSent, securedC, clearTc, room, imageB, receiver, sender}
 use Rattle.promises.specs.Frames.{dataInClear, spiOn, numberOn}
 use Rattle.promises.specs.Isolation.{Standing, both, neither, SameAnswer}

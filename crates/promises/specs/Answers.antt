@@ -9,11 +9,11 @@ use mathlib.Core.Path.{_≡_}
 use mathlib.Core.List.{List}
 use lib.ListN.{length}
 use Rattle.octets.specs.Lists.{Octets}
-use Rattle.link.specs.Answers.{Reported, reported}
+use Rattle.judging.specs.Answers.{Reported, reported}
 use Rattle.link.specs.Calls.{Left, loaded, secured, checked}
-use Rattle.link.specs.Said.{Said}
-use Rattle.link.specs.declared.answers.Answer.{Answer}
-use Rattle.link.specs.declared.answers.Answer.the-variants as answer
+use Rattle.judging.specs.Said.{Said}
+use Rattle.judging.specs.declared.answers.Answer.{Answer}
+use Rattle.judging.specs.declared.answers.Answer.the-variants as answer
 use Rattle.promises.specs.Forms.{formSaid}
 use Rattle.promises.specs.Images.{ImageRules, Agreeing, InWindow, Serves, serviceAt, windowAt, maskAt, keyAt, lastAt}
 use Rattle.promises.specs.Frames.{FrameRules, headerSize, trailerSize, securitySize, spiOn, numberOn, textOn, macOn, rightMac}

@@ -11,7 +11,7 @@ use Rattle.octets.specs.Lists.{octet}
 use Rattle.octets.specs.Numbers.{bytes}
 use Rattle.octets.specs.Same.{same}
 use Rattle.link.specs.Calls.{Left, loaded, secured, checkedAs, checkedCutAs}
-use Rattle.link.specs.Said.{saying}
+use Rattle.judging.specs.Said.{saying}
 use Rattle.promises.specs.Images.{countIn, positionAt}
 
 abbrev pub allTrue : List Bool → Bool

@@ -12,7 +12,7 @@ use lib.Bits.{bitAnd}
 use lib.Dec.{eqb}
 use lib.ListN.{length}
 use Rattle.octets.specs.Lists.{octet, tab}
-use Rattle.link.specs.Said.{Said}
+use Rattle.judging.specs.Said.{Said}
 
 pub record Form : Type 1 where
   -- what the bits of the header have to hold, the length field among them

@@ -13,7 +13,7 @@ use Rattle.octets.specs.Numbers.{numberAt}
 use Rattle.cmac.specs.Mac.{cmac}
 use Rattle.gcm.specs.Decryption.{plaintext}
 use Rattle.gcm.specs.Encryption.{ciphertext, tag}
-use Rattle.link.specs.Said.{Said}
+use Rattle.judging.specs.Said.{Said}
 use Rattle.promises.specs.Forms.{formSaid, underMask}
 
 abbrev pub headerSize : Said → List ℕ → ℕ

@@ -11,7 +11,7 @@ use lib.ListN.{length, getD}
 use Rattle.octets.specs.Lists.{octet, part}
 use Rattle.octets.specs.Numbers.{numberAt}
 use Rattle.octets.specs.Xor.{_⊕_}
-use Rattle.link.specs.Said.{Said}
+use Rattle.judging.specs.Said.{Said}
 use Rattle.promises.specs.Forms.{formOf, formSaid}
 
 -- ---- version and contents

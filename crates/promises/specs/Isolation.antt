@@ -9,7 +9,7 @@ use mathlib.Core.List.{List}
 use lib.ListN.{length}
 use Rattle.octets.specs.Lists.{Octets}
 use Rattle.link.specs.Calls.{Left, handed, secured, checked}
-use Rattle.link.specs.Said.{Said}
+use Rattle.judging.specs.Said.{Said}
 use Rattle.promises.specs.Images.{versionIn, wholeBodyAt, lastAt, ImageRules, Agreeing, Serves}
 use Rattle.promises.specs.Frames.{spiOn}
 

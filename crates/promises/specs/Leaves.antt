@@ -12,7 +12,7 @@ use mathlib.Core.List.{List}
 use lib.ListN.{length, set, drop}
 use Rattle.octets.specs.Lists.{octet, Octets}
 use Rattle.link.specs.Calls.{Left, handed, loaded, secured, securedCut, checked, checkedCut}
-use Rattle.link.specs.Said.{Said}
+use Rattle.judging.specs.Said.{Said}
 use Rattle.promises.specs.Images.{countIn, spiAt, place, serviceAt, maskAt, keyAt, codeAt, coded, lastAt, ImageRules, Agreeing}
 use Rattle.promises.specs.Frames.{spiOn, numberOn, fieldOn, textOn, comingIn, SecuredFrom}
 

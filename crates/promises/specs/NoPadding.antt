@@ -4,7 +4,7 @@ use Prim.Native.Nat.{ℕ}
 use mathlib.Core.Path.{_≡_}
 use mathlib.Core.List.{List}
 use Rattle.link.specs.Calls.{checked}
-use Rattle.link.specs.Said.{Said}
+use Rattle.judging.specs.Said.{Said}
 
 pub record NeverNine : Type 0 where
   pub checking : (image numbers : List ℕ) (said : Said) (frame output : List ℕ) → checked image numbers said frame output .answer ≡ 9 → ⊥

@@ -6,7 +6,7 @@ use Prim.Native.Nat.{ℕ}
 use mathlib.Core.Path.{_≡_}
 use mathlib.Core.List.{List, []}
 use Rattle.link.specs.Calls.{Left, loaded, secured, securedCut, checked, checkedCut}
-use Rattle.link.specs.Said.{Said}
+use Rattle.judging.specs.Said.{Said}
 
 pub record Untouched (image numbers output : List ℕ) (x : Left) : Type 0 where
   pub length : x .length ≡ 0

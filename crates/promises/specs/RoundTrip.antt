@@ -10,7 +10,7 @@ use mathlib.Core.Path.{_≡_}
 use mathlib.Core.List.{List}
 use lib.ListN.{length}
 use Rattle.link.specs.Calls.{Left, handed, secured, checked}
-use Rattle.link.specs.Said.{Said}
+use Rattle.judging.specs.Said.{Said}
 use Rattle.octets.specs.Lists.{Octets}
 use Rattle.promises.specs.Images.{countIn, spiAt, serviceAt, kindAt, directionAt, stateAt, spacecraftAt, mapAt}
 use Rattle.promises.specs.Images.{windowAt, maskAt, keyAt, lastAt, ServesChannel, ImageRules, Agreeing, InWindow}

@@ -13,7 +13,7 @@ use lib.Dec.{eqb}
 use lib.ListN.{length}
 use Rattle.octets.specs.Lists.{octet, Octets}
 use Rattle.link.specs.Calls.{Left, handed, loaded, secured, securedCut, checked, checkedCut}
-use Rattle.link.specs.Said.{Said}
+use Rattle.judging.specs.Said.{Said}
 use Rattle.promises.specs.Images.{countIn, spiAt, place, serviceAt, ImageRules}
 use Rattle.promises.specs.Frames.{spiOn, numberOn}
 

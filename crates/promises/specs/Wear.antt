@@ -13,8 +13,8 @@ use Rattle.octets.specs.Lists.{Octets}
 use Rattle.marks.specs.declared.plans.Store.{Store}
 use Rattle.marks.specs.Stores.{stored}
 use Rattle.link.specs.Calls.{Left, loaded, securingReply, secured, securedCut, comparison, checkingReply, checked, checkedCut}
-use Rattle.link.specs.Replies.{Reply}
-use Rattle.link.specs.Said.{Said}
+use Rattle.judging.specs.Replies.{Reply}
+use Rattle.judging.specs.Said.{Said}
 use Rattle.promises.specs.Frames.{spiOn}
 use Rattle.promises.specs.Images.{countIn, spiAt, directionAt}
 use Rattle.promises.specs.Runs.{Step, load, send, check, sendCut, checkCut, State, after, ran, sentIn, begun, shownOf}

@@ -13,7 +13,8 @@ use Rattle.frame.proofs.Room.{length-clear, length-trailer}
 use Rattle.octets.specs.Output.{written, fronted}
 use Rattle.octets.proofs.Filling.{length-written, with-room, behind}
 use Rattle.association.specs.declared.held.Held.{Held}
-use Rattle.protection.specs.Protection.{serviceIn, securityLength, fieldFor, coveredIn, securedLength, securedFrame}
+use Rattle.services.specs.SecurityHeader.{serviceIn, securityLength, fieldFor}
+use Rattle.protection.specs.Protection.{coveredIn, securedLength, securedFrame}
 use Rattle.protection.proofs.Wire as wire
 
 -- a clear frame with its parts, what it is secured under, and an output with room for the result

@@ -16,8 +16,9 @@ use Rattle.frame.proofs.Masking.{length-masked}
 use Rattle.kinds.proofs.Sizes.{header-most}
 use Rattle.octets.specs.Output.{written, fronted}
 use Rattle.association.specs.declared.held.Held.{Held}
-use Rattle.protection.specs.Protection.{securityLength, coveredBefore, coveredIn}
-use Rattle.protection.proofs.ServiceLaws.{lawful}
+use Rattle.services.specs.SecurityHeader.{securityLength}
+use Rattle.protection.specs.Protection.{coveredBefore, coveredIn}
+use Rattle.services.proofs.ServiceLaws.{lawful}
 use Rattle.octets.proofs.Filling.{length-written, with-room, behind}
 use Rattle.protection.proofs.Slices.{slice-as-part}
 

@@ -1,10 +1,6 @@
 pub mod Assembling
-pub mod Chosen
-pub mod Ciphers
 pub mod Covering
-pub mod Fields
 pub mod Headers
 pub mod Reading
-pub mod ServiceLaws
 pub mod Slices
 pub mod Wire

@@ -13,10 +13,11 @@ use Rattle.kinds.specs.Kinds.{Kind, kindIs}
 use Rattle.frame.specs.Parts.{macStart, trailerStart, securedParts, securityOf, securedContent, macOf}
 use Rattle.frame.specs.declared.parts.SecuredParts.{SecuredParts}
 use Rattle.association.specs.declared.held.Held.{Held}
-use Rattle.protection.specs.Protection.{securityLength, fieldIn, textIn, clearData, clearLength}
+use Rattle.services.specs.SecurityHeader.{securityLength}
+use Rattle.protection.specs.Protection.{fieldIn, textIn, clearData, clearLength}
 use Rattle.protection.specs.Steps.{Opens}
 use Rattle.protection.specs.declared.checked.Opening.{Opening}
-use Rattle.protection.proofs.ServiceLaws.{lawful}
+use Rattle.services.proofs.ServiceLaws.{lawful}
 use Rattle.protection.proofs.Slices.{slice-as-part}
 
 -- where the parts of an opened frame end: one behind the other, inside the frame

@@ -23,9 +23,10 @@ use Rattle.kinds.proofs.Kept.{Kept, built}
 use Rattle.frame.proofs.Rebuilt.{obeys-again}
 use Rattle.frame.proofs.Room.{Obeys, obeyed, length-header, length-trailer}
 use Rattle.association.specs.declared.held.Held.{Held}
-use Rattle.protection.specs.Protection.{serviceIn, securityLength, fieldFor, numberFrom, coveredBefore, securedLength, securedFrame}
+use Rattle.services.specs.SecurityHeader.{serviceIn, securityLength, fieldFor, numberFrom}
+use Rattle.protection.specs.Protection.{coveredBefore, securedLength, securedFrame}
 use Rattle.protection.specs.Protection.{coveredIn, spiIn, fieldIn, textIn, numberIn, macRight, clearData, clearLength}
-use Rattle.protection.proofs.ServiceLaws.{Lawful, lawful}
+use Rattle.services.proofs.ServiceLaws.{Lawful, lawful}
 
 -- ---- where a reader finds the number, in any frame
 

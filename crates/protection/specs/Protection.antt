@@ -5,29 +5,14 @@ use Prim.Native.Nat.{ℕ, _+_}
 use mathlib.Core.Bool.{Bool}
 use mathlib.Core.List.{List, _++_}
 use lib.ListN.{length, drop}
-use Rattle.octets.specs.Numbers.{number, numberAt, bytes}
+use Rattle.octets.specs.Numbers.{numberAt, bytes}
 use Rattle.octets.specs.Same.{same}
 use Rattle.kinds.specs.Kinds.{Kind}
 use Rattle.frame.specs.Masked.{masked}
 use Rattle.frame.specs.Parts as parts
 use Rattle.frame.specs.Parts.{headerOf, trailerOf, headerEnd, securityOf, macOf}
 use Rattle.association.specs.declared.held.Held.{Held}
-use Rattle.protection.specs.Services.{Service, service}
-
--- ---- the security header: the SPI in two octets, then a field that holds the number
-
-abbrev pub serviceIn : Held → Service
-serviceIn h = service (h .service)
-
-abbrev pub securityLength : Held → ℕ
-securityLength h = 2 + serviceIn h .field
-
--- the field that holds a number, and the number that a field holds
-abbrev pub fieldFor : Held → ℕ → List ℕ
-fieldFor h n = bytes (serviceIn h .field) n
-
-abbrev pub numberFrom : Held → List ℕ → ℕ
-numberFrom h field = number (serviceIn h .field) field
+use Rattle.services.specs.SecurityHeader.{serviceIn, securityLength, fieldFor, numberFrom}
 
 -- ---- what the MAC covers before the data
 

@@ -3,25 +3,15 @@
 use Prim.Native.Nat.{ℕ, _+_, _≤_}
 use mathlib.Core.Path.{_≡_}
 use mathlib.Core.List.{List}
-use lib.ListN.{length, drop}
+use lib.ListN.{length}
 use Rattle.key_schedule.specs.KeyExpansion.{keyExpansion}
 use Rattle.kinds.specs.Kinds.{Kind, kindIs}
 use Rattle.frame.specs.Parts.{securedParts}
 use Rattle.kinds.specs.declared.kinds.Kind as code
 use Rattle.association.specs.declared.held.Held.{Held}
-use Rattle.protection.specs.Protection.{serviceIn, securityLength, securedLength}
+use Rattle.services.specs.SecurityHeader.{securityLength}
+use Rattle.protection.specs.Protection.{securedLength}
 use Rattle.protection.specs.declared.checked.Opening.{Opening}
-
--- ---- under a security header: the data as it goes out, the clear data that comes back, and the MAC
-
-abbrev pub textUnder : Held → List ℕ → List ℕ → List ℕ
-textUnder h security clear = serviceIn h .goingOut (h .key) (drop 2 security) clear
-
-abbrev pub clearUnder : Held → List ℕ → List ℕ → List ℕ
-clearUnder h security text = serviceIn h .comingIn (h .key) (drop 2 security) text
-
-abbrev pub macUnder : Held → List ℕ → List ℕ → List ℕ → List ℕ
-macUnder h security before text = serviceIn h .mac (h .key) (drop 2 security) before text
 
 -- ---- a clear frame that has room for its parts, and an output for the secured one: answers 3, 11 and 6 are past
 

@@ -1,16 +1,16 @@
 // Document 01, 'Frames': what a secured frame holds. The functions that read it ask for a frame that has room for its parts: answer 5 is past.
 use crate::cover::cover;
-use crate::sequence::Sequence;
-use crate::sequence::number_in;
-use crate::sequence::security_length;
-use crate::services::mac_is_right;
-use crate::services::release;
 use association::Held;
 use frame::SecuredParts;
 use frame::secured_parts;
 use key_schedule::expand_key;
 use kinds::Kind;
 use octets::block_at;
+use services::Sequence;
+use services::mac_is_right;
+use services::number_in;
+use services::release;
+use services::security_length;
 ghost use mathlib.Core.Path.{_≡_};
 ghost use Prim.Native.Nat.{_+_, _*_, _≤_};
 ghost use lib.ListN.{length};

@@ -1,10 +1,8 @@
-// Document 01, 'Frames': the two services, the security header, and the secured frame. What an association holds (service, mask, key) makes a
-// secured frame of a clear one, and reads a secured one. Nothing here knows images, numbers or answers.
+// Document 01, 'Frames': the secured frame. What an association holds (service, mask, key) makes a secured frame of a clear one, and reads a
+// secured one. Nothing here knows images, numbers or answers.
 mod checked;
 mod cover;
 mod secured;
-mod sequence;
-mod services;
 
 pub use checked::Opening;
 pub use checked::clear_length;
@@ -13,5 +11,3 @@ pub use checked::number_of;
 pub use checked::opening_of;
 pub use checked::release_data;
 pub use secured::write_secured;
-pub use sequence::Sequence;
-pub use sequence::security_length;

@@ -1,14 +1,14 @@
 // Document 01, 'Frames': the secured frame, written to the front of the output piece behind piece.
 use crate::cover::cover;
-use crate::sequence::security_header;
-use crate::sequence::security_length;
-use crate::services::protect;
 use association::Held;
 use frame::clear_parts;
 use frame::secured_length;
 use kinds::Kind;
 use octets::put;
 use octets::put_behind;
+use services::protect;
+use services::security_header;
+use services::security_length;
 ghost use mathlib.Core.Path.{_≡_};
 ghost use mathlib.Core.List.{_++_};
 ghost use Prim.Native.Nat.{_+_, _≤_};
@@ -16,8 +16,10 @@ ghost use lib.ListN.{length, take, drop};
 ghost use Rattle.kinds.specs.Kinds.{kindIs};
 ghost use Rattle.frame.specs.Parts.{headerOf};
 ghost use Rattle.octets.specs.Output.{written};
-ghost use Rattle.protection.specs.Protection.{securityLength, coveredIn, securedFrame};
-ghost use Rattle.protection.specs.Steps.{Securable, textUnder, macUnder};
+ghost use Rattle.services.specs.SecurityHeader.{securityLength};
+ghost use Rattle.protection.specs.Protection.{coveredIn, securedFrame};
+ghost use Rattle.services.specs.Steps.{textUnder, macUnder};
+ghost use Rattle.protection.specs.Steps.{Securable};
 
 // A frame's header, its length rewritten for a frame of so many octets, and a security header.
 fn write_headers(kind: Kind, size: usize, security: &[u8], frame: &[u8], output: &mut [u8])

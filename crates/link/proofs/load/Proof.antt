@@ -4,8 +4,8 @@ use mathlib.Core.Path.{sym, ap, _∙_}
 use mathlib.Core.List.{List, []}
 use Prim.Native.Nat.{ℕ}
 use Rattle.link.specs.Calls.{Left, leaving, loaded, refused}
-use Rattle.link.specs.declared.answers.Outcome.{Outcome}
-use Rattle.link.proofs.Standings.{load-broken, load-well, load-asks-no-marks}
+use Rattle.link.specs.declared.outcome.Outcome.{Outcome}
+use Rattle.judging.proofs.Standings.{load-broken, load-well, load-asks-no-marks}
 use borrow.Author.Needs.{needs}
 use Rattle.link.proofs.load.Statement.{statement}
 use Rattle.link.proofs.load.Tie as tie

@@ -3,7 +3,7 @@
 use mathlib.Core.List.{List}
 use Prim.Native.Nat.{ℕ}
 use Rattle.link.specs.Calls.{checked}
-use Rattle.link.specs.Said.{saying}
+use Rattle.judging.specs.Said.{saying}
 use Rattle.link_c.specs.Interface.{checkCall}
 use Rattle.link_c.proofs.Returning.{returned, miscounted}
 use borrow.Author.Needs.{needs}

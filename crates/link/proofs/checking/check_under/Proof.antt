@@ -13,12 +13,13 @@ use Rattle.protection.specs.Protection.{macRight, clearData}
 use Rattle.protection.specs.Steps.{openingOf}
 use Rattle.protection.specs.declared.checked.Opening.{Opening}
 use Rattle.protection.proofs.Reading.{length-clear-data}
-use Rattle.link.specs.Replies.{Reply}
-use Rattle.link.specs.Steps.{Judgement, judgement, receivingReply, receivingJudged, Judged}
-use Rattle.link.specs.declared.verdict.Verdict.{Verdict}
+use Rattle.judging.specs.Replies.{Reply}
+use Rattle.link.specs.Steps.{receivingReply}
+use Rattle.judging.specs.Verdicts.{Judgement, judgement, receivingJudged, Judged}
+use Rattle.judging.specs.declared.verdict.Verdict.{Verdict}
 use Rattle.link.proofs.Carried.{carried-refusal, carried-grant}
-use Rattle.link.proofs.Granting.{opened-so, releasable}
-use Rattle.link.proofs.Judging.{held-under, receiving-judged}
+use Rattle.judging.proofs.Granting.{opened-so, releasable}
+use Rattle.link.proofs.Under.{held-under, receiving-judged}
 use borrow.Author.Needs.{needs}
 use Rattle.link.proofs.checking.check_under.Statement.{statement}
 use Rattle.link.proofs.checking.check_under.Tie as tie

@@ -1,7 +1,7 @@
 -- `hand_out` is right because the frame is written, and the stores that are reported are those that were made, all of them.
 -- Assumes nothing.
 use mathlib.Core.Path.{ap, _∙_}
-use Rattle.link.specs.Answers.{granted}
+use Rattle.judging.specs.Answers.{granted}
 use borrow.Author.Needs.{needs}
 use Rattle.link.proofs.securing.hand_out.Statement.{statement}
 use Rattle.link.proofs.securing.hand_out.Tie as tie

@@ -9,12 +9,13 @@ use Rattle.kinds.specs.Kinds.{kindIs}
 use Rattle.association.specs.Association.{associationOf, heldIn}
 use Rattle.association.specs.declared.held.Held.{Held}
 use Rattle.protection.specs.Protection.{securedFrame}
-use Rattle.link.specs.Replies.{Reply}
-use Rattle.link.specs.Steps.{Judgement, judgement, sendingReply, Judged}
-use Rattle.link.specs.declared.verdict.Verdict.{Verdict}
+use Rattle.judging.specs.Replies.{Reply}
+use Rattle.link.specs.Steps.{sendingReply}
+use Rattle.judging.specs.Verdicts.{Judgement, judgement, Judged}
+use Rattle.judging.specs.declared.verdict.Verdict.{Verdict}
 use Rattle.link.proofs.Carried.{carried-refusal, carried-grant}
-use Rattle.link.proofs.Granting.{securable, frame-size}
-use Rattle.link.proofs.Judging.{held-under, sending-judged}
+use Rattle.judging.proofs.Granting.{securable, frame-size}
+use Rattle.link.proofs.Under.{held-under, sending-judged}
 use borrow.Author.Needs.{needs}
 use Rattle.link.proofs.securing.secure_under.Statement.{statement}
 use Rattle.link.proofs.securing.secure_under.Tie as tie

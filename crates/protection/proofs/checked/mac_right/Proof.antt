@@ -9,8 +9,9 @@ use lib.Seq.{length-take-le}
 use Rattle.octets.specs.Same.{same}
 use Rattle.kinds.specs.Kinds.{kindIs}
 use Rattle.frame.specs.Parts.{securityOf}
-use Rattle.protection.specs.Protection.{securityLength, fieldIn, coveredIn, textIn, macRight}
-use Rattle.protection.specs.Steps.{macUnder}
+use Rattle.services.specs.SecurityHeader.{securityLength}
+use Rattle.protection.specs.Protection.{fieldIn, coveredIn, textIn, macRight}
+use Rattle.services.specs.Steps.{macUnder}
 use Rattle.protection.proofs.Covering.{at-most-twenty, twenty, front}
 use Rattle.protection.proofs.Reading.{Placed, placed, key-expanded, security-lent, text-lent, mac-read}
 use borrow.Author.Needs.{needs}

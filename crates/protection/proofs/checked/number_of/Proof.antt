@@ -3,7 +3,8 @@
 use mathlib.Core.Path.{_∙_, ap}
 use native.Mathlib.Omega.{arith}
 use Rattle.octets.specs.Numbers.{numberAt}
-use Rattle.protection.specs.Protection.{serviceIn, fieldIn, numberIn}
+use Rattle.services.specs.SecurityHeader.{serviceIn}
+use Rattle.protection.specs.Protection.{fieldIn, numberIn}
 use Rattle.protection.proofs.Reading.{placed, security-lent}
 use borrow.Author.Needs.{needs}
 use Rattle.protection.proofs.checked.number_of.Statement.{statement}

@@ -6,7 +6,8 @@ use Prim.Native.Nat.{ℕ}
 use native.Mathlib.Omega.{arith}
 use lib.ListN.{drop, length-take, length-drop}
 use Rattle.octets.specs.Output.{written}
-use Rattle.protection.specs.Protection.{serviceIn, fieldIn, clearData}
+use Rattle.services.specs.SecurityHeader.{serviceIn}
+use Rattle.protection.specs.Protection.{fieldIn, clearData}
 use Rattle.protection.proofs.Reading.{Placed, placed, key-expanded, security-lent, text-lent, text-long}
 use borrow.Author.Needs.{needs}
 use Rattle.protection.proofs.checked.release_data.Statement.{statement}

@@ -14,8 +14,9 @@ use Rattle.frame.specs.Parts.{trailerOf, clearContent, trailerStart}
 use Rattle.frame.specs.declared.parts.ClearParts.{ClearParts}
 use Rattle.kinds.proofs.Kept.{lawful-kind}
 use Rattle.octets.specs.Output.{written}
-use Rattle.protection.specs.Protection.{serviceIn, securityLength, securedLength, fieldFor}
-use Rattle.protection.specs.Steps.{textUnder}
+use Rattle.services.specs.SecurityHeader.{serviceIn, securityLength, fieldFor}
+use Rattle.protection.specs.Protection.{securedLength}
+use Rattle.services.specs.Steps.{textUnder}
 use Rattle.protection.proofs.Assembling as assembling
 use Rattle.protection.proofs.Assembling.{Securing}
 use Rattle.protection.proofs.Wire.{length-security}

@@ -8,8 +8,9 @@ use lib.ListN.{length, take, length-take, length-drop}
 use lib.Seq.{length-take-le}
 use Rattle.octets.specs.Output.{written}
 use Rattle.kinds.specs.Kinds.{kindIs}
-use Rattle.protection.specs.Protection.{securityLength, coveredIn}
-use Rattle.protection.specs.Steps.{textUnder, macUnder}
+use Rattle.services.specs.SecurityHeader.{securityLength}
+use Rattle.protection.specs.Protection.{coveredIn}
+use Rattle.services.specs.Steps.{textUnder, macUnder}
 use Rattle.protection.proofs.Covering.{at-most-twenty, twenty, front}
 use Rattle.octets.proofs.Filling.{lent-back}
 use borrow.Author.Needs.{needs}

@@ -1,0 +1,104 @@
+// Document 01, 'What comes back': the tests that come first in securing and in checking, 1, 2, 3, 4 in the paper's order. Nothing is changed.
+use crate::answers::Answer;
+use crate::wanted::RECEIVING;
+use crate::wanted::SENDING;
+use crate::wanted::spi_on;
+use crate::wanted::wanted_by;
+use association::Found;
+use association::Numbers;
+use association::Standing;
+use association::find;
+use association::test_standing;
+use frame::kind_obeyed;
+use kinds::Kind;
+use kinds::Named;
+use kinds::kind_of;
+ghost use mathlib.Core.Path.{_≡_};
+ghost use mathlib.Core.Bool.{true, false};
+ghost use Rattle.kinds.specs.Kinds.{kindIs, kindOf, named};
+ghost use Rattle.image.specs.Image.{validImage};
+ghost use Rattle.association.specs.Numbers.{agrees};
+ghost use Rattle.judging.specs.Said.{saying};
+ghost use Rattle.judging.specs.Verdicts.{Admitted};
+ghost use Rattle.judging.specs.Wants.{wanted, securingWants, checkingWants};
+
+// The kind of the frame and the entry that it matches, or the first refusal.
+pub enum Admission {
+    To(Kind, u8),
+    Refused(Answer),
+}
+
+// A frame of a kind, past 1 and 2: 3 and 4.
+fn admit_kind(
+    image: &[u8],
+    numbers: Numbers,
+    number: u8,
+    kind: Kind,
+    spi: u16,
+    direction: u8,
+    frame: &[u8],
+    secured: bool,
+) -> Admission
+    requires { ⌜ (validImage (now image) ≡ true) × (agrees (now image) (numbers .last) ≡ true) × (kindOf number ≡ kindIs kind) ⌝ }
+    ensures { λ r. ⌜ Admitted r (now (image .entry)) (numbers .last) (wanted spi direction (saying number) (now (frame .entry))) (saying number) secured (now (frame .entry)) ⌝ }
+{
+    if !kind_obeyed(kind, frame, secured) {
+        return Admission::Refused(Answer::BadFrame);
+    }
+    let found = find(image, wanted_by(spi, direction, number, kind, frame));
+    match found {
+        Found::At(entry) => Admission::To(kind, entry),
+        Found::Nothing => Admission::Refused(Answer::NoEntry),
+    }
+}
+
+// `asked` is the kind that the caller's number names, if it names one.
+fn admit(
+    image: &[u8],
+    numbers: Numbers,
+    number: u8,
+    asked: Named,
+    spi: u16,
+    direction: u8,
+    frame: &[u8],
+    secured: bool,
+) -> Admission
+    requires { ⌜ asked ≡ named number ⌝ }
+    ensures { λ r. ⌜ Admitted r (now (image .entry)) (numbers .last) (wanted spi direction (saying number) (now (frame .entry))) (saying number) secured (now (frame .entry)) ⌝ }
+{
+    let standing = test_standing(image, numbers);
+    match standing {
+        Standing::BadImage => Admission::Refused(Answer::BadImage),
+        Standing::BadMarks => Admission::Refused(Answer::BadMarks),
+        Standing::Good => match asked {
+            Named::Kind(kind) => admit_kind(
+                image,
+                numbers,
+                number,
+                kind,
+                spi,
+                direction,
+                frame,
+                secured,
+            ),
+            Named::Nothing => Admission::Refused(Answer::BadFrame),
+        },
+    }
+}
+
+// A clear frame that is to be sent under an SPI.
+pub fn admit_sending(image: &[u8], numbers: Numbers, kind: u8, spi: u16, frame: &[u8]) -> Admission
+    ensures { λ r. ⌜ Admitted r (now (image .entry)) (numbers .last) (securingWants (saying kind) spi (now (frame .entry))) (saying kind) false (now (frame .entry)) ⌝ }
+{
+    let asked = kind_of(kind);
+    admit(image, numbers, kind, asked, spi, SENDING, frame, false)
+}
+
+// A secured frame that came in, under the SPI that it holds.
+pub fn admit_receiving(image: &[u8], numbers: Numbers, kind: u8, frame: &[u8]) -> Admission
+    ensures { λ r. ⌜ Admitted r (now (image .entry)) (numbers .last) (checkingWants (saying kind) (now (frame .entry))) (saying kind) true (now (frame .entry)) ⌝ }
+{
+    let asked = kind_of(kind);
+    let spi = spi_on(asked, frame);
+    admit(image, numbers, kind, asked, spi, RECEIVING, frame, true)
+}

@@ -1,0 +1,15 @@
+// Document 01, 'What comes back': one variant for each number of the paper's table. Done reports the length of the result and the count of
+// stores.
+pub enum Answer {
+    Done(usize, u32),
+    BadImage,
+    BadMarks,
+    BadFrame,
+    NoEntry,
+    TooShort,
+    NoRoom,
+    WrongMac,
+    OutsideWindow,
+    NumbersSpent,
+    TooLong,
+}

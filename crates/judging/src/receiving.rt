@@ -1,0 +1,55 @@
+// Document 01, 'What comes back': a secured frame under the entry that matches, 5, 6, 7 and 8 in the paper's order.
+use crate::answers::Answer;
+use crate::verdict::Grant;
+use crate::verdict::Verdict;
+use crate::window::accepts;
+use association::plan_for;
+use frame::too_short;
+use protection::Opening;
+use protection::clear_length;
+use protection::mac_right;
+use protection::number_of;
+use services::security_length;
+ghost use mathlib.Core.Path.{_≡_};
+ghost use mathlib.Core.Bool.{true};
+ghost use Rattle.kinds.specs.Kinds.{kindIs};
+ghost use Rattle.frame.specs.Rules.{obeys};
+ghost use Rattle.protection.specs.Steps.{openingOf};
+ghost use Rattle.judging.specs.Verdicts.{Judged, receivingJudged};
+
+// Whether the data is released, after the last number used. The MAC is judged before the window. Nothing is changed, and nothing decrypted.
+pub fn judge_receiving(
+    image: &[u8],
+    entry: u8,
+    last: u32,
+    opening: Opening,
+    frame: &[u8],
+    room: usize,
+) -> Verdict
+    requires { ⌜ (obeys (kindIs (opening .kind)) (now frame) true ≡ true) × (opening ≡ openingOf (opening .kind) (opening .held) (now frame)) ⌝ }
+    ensures { λ r. ⌜ Judged r (receivingJudged (now (image .entry)) entry (opening .held) last (kindIs (opening .kind)) (now (frame .entry)) room) ⌝ }
+{
+    let kind = opening.kind;
+    let held = opening.held;
+    if too_short(kind, security_length(held.service), frame) {
+        return Verdict::Refused(Answer::TooShort);
+    }
+    let size = clear_length(opening, frame);
+    if room < size {
+        return Verdict::Refused(Answer::NoRoom);
+    }
+    if !mac_right(opening, frame) {
+        return Verdict::Refused(Answer::WrongMac);
+    }
+    let sequence = number_of(opening, frame);
+    if !accepts(last, held.window, sequence) {
+        return Verdict::Refused(Answer::OutsideWindow);
+    }
+    let number = sequence.number;
+    Verdict::Granted(Grant {
+        entry,
+        number,
+        plan: plan_for(image, entry, number),
+        size,
+    })
+}

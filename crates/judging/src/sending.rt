@@ -1,0 +1,47 @@
+// Document 01, 'What comes back': a clear frame under the entry that matches, 11, 6 and 10 in the paper's order.
+use crate::answers::Answer;
+use crate::verdict::Grant;
+use crate::verdict::Verdict;
+use association::Held;
+use association::plan_for;
+use frame::exceeds;
+use frame::secured_length;
+use kinds::Kind;
+use services::security_length;
+ghost use mathlib.Core.Path.{_≡_};
+ghost use Rattle.kinds.specs.Kinds.{kindIs};
+ghost use Rattle.judging.specs.Verdicts.{Judged, sendingJudged};
+
+const GREATEST: u32 = 4294967295;
+
+// Whether a frame is secured, under what its association holds and after the last number used. Nothing is changed.
+pub fn judge_sending(
+    image: &[u8],
+    entry: u8,
+    held: Held,
+    last: u32,
+    kind: Kind,
+    frame: &[u8],
+    room: usize,
+) -> Verdict
+    ensures { λ r. ⌜ Judged r (sendingJudged (now (image .entry)) entry held last (kindIs kind) (now (frame .entry)) room) ⌝ }
+{
+    let security = security_length(held.service);
+    let size = secured_length(security, frame);
+    if exceeds(kind, security, frame) {
+        return Verdict::Refused(Answer::TooLong);
+    }
+    if room < size {
+        return Verdict::Refused(Answer::NoRoom);
+    }
+    if last == GREATEST {
+        return Verdict::Refused(Answer::NumbersSpent);
+    }
+    let number = last + 1;
+    Verdict::Granted(Grant {
+        entry,
+        number,
+        plan: plan_for(image, entry, number),
+        size,
+    })
+}

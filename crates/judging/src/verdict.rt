@@ -1,0 +1,16 @@
+// A call is decided, and then carried out: a verdict changes nothing, and what it grants is stored first, then written, then returned.
+use crate::answers::Answer;
+use marks::Plan;
+
+// What is used where no test refuses: the entry, its new number, the octet stores, and the octets of the result.
+pub struct Grant {
+    pub entry: u8,
+    pub number: u32,
+    pub plan: Plan,
+    pub size: usize,
+}
+
+pub enum Verdict {
+    Granted(Grant),
+    Refused(Answer),
+}

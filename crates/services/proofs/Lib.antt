@@ -1,0 +1,4 @@
+pub mod Chosen
+pub mod Ciphers
+pub mod Fields
+pub mod ServiceLaws

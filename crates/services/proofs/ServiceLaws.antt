@@ -1,0 +1,56 @@
+-- What the layers above may rest on under any service: the field is short and holds every number that sending uses, the data keeps its
+-- length both ways and comes back as it was, a MAC has sixteen octets, and everything that goes out is octets.
+-- Assumes nothing.
+use Prim.Native.Nat.{ℕ, _^_, _≤_, _<_}
+use mathlib.Core.Path.{_≡_, refl}
+use mathlib.Core.List.{List, _++_}
+use native.Mathlib.Omega.{arith}
+use lib.ListN.{length}
+use Rattle.octets.specs.Lists.{Octets}
+use Rattle.cmac.proofs.Laws.{length-cmac, octets-cmac}
+use Rattle.gcm.proofs.Laws.{length-ciphertext, length-plaintext, length-tag, decrypted-back}
+use Rattle.gcm.proofs.Laws.{octets-ciphertext, octets-plaintext, octets-tag}
+use Rattle.services.specs.Services.{Service, authentication, authenticatedEncryption, service}
+use Rattle.services.proofs.Chosen.{either}
+
+pub record Lawful (s : Service) : Type 0 where
+  pub short : s .field ≤ 12
+  pub holds : (n : ℕ) → n < 2 ^ 32 → n < 256 ^ s .field
+  pub lengthOut : (key field clear : List ℕ) → length (s .goingOut key field clear) ≡ length clear
+  pub lengthIn : (key field text : List ℕ) → length (s .comingIn key field text) ≡ length text
+  pub lengthMac : (key field before text : List ℕ) → length (s .mac key field before text) ≡ 16
+  pub back : (key field clear : List ℕ) → s .comingIn key field (s .goingOut key field clear) ≡ clear
+  pub octetsOut : (key field clear : List ℕ) → Octets key → Octets clear → Octets (s .goingOut key field clear)
+  pub octetsIn : (key field text : List ℕ) → Octets key → Octets text → Octets (s .comingIn key field text)
+  pub octetsMac : (key field before text : List ℕ) → Octets key → Octets (s .mac key field before text)
+
+authentication-lawful : Lawful authentication
+authentication-lawful =
+    record {
+      short = omega arith;
+      holds = λ n h. omega arith;
+      lengthOut = λ key field clear. refl;
+      lengthIn = λ key field text. refl;
+      lengthMac = λ key field before text. length-cmac key (before ++ text);
+      back = λ key field clear. refl;
+      octetsOut = λ key field clear k o. o;
+      octetsIn = λ key field text k o. o;
+      octetsMac = λ key field before text k. octets-cmac key (before ++ text) k;
+    }
+
+encryption-lawful : Lawful authenticatedEncryption
+encryption-lawful =
+    record {
+      short = omega arith;
+      holds = λ n h. omega arith;
+      lengthOut = length-ciphertext;
+      lengthIn = length-plaintext;
+      lengthMac = length-tag;
+      back = decrypted-back;
+      octetsOut = octets-ciphertext;
+      octetsIn = octets-plaintext;
+      octetsMac = octets-tag;
+    }
+
+pub lawful : (number : ℕ) → Lawful (service number)
+lawful number = either Lawful authentication-lawful encryption-lawful number

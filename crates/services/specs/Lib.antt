@@ -1,0 +1,3 @@
+pub mod SecurityHeader
+pub mod Services
+pub mod Steps
