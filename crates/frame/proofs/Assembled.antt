@@ -10,7 +10,7 @@ use lib.Seq.{slice, take-at, drop-at}
 use Rattle.kinds.specs.Kinds.{Kind}
 use Rattle.frame.specs.Parts.{macLength, headerEnd, securityEnd, macStart, trailerStart, securedLength}
 use Rattle.frame.specs.Parts.{headerOf, trailerOf, clearContent, securityOf, securedContent, macOf}
-use Rattle.frame.proofs.Room.{length-trailer, length-clear}
+use Rattle.frame.proofs.Room.{length-clear}
 
 -- the part q of p, q, r
 middle : (p q r : List ℕ) (a b : ℕ) → length p ≡ a → a + length q ≡ b → slice a b (p ++ (q ++ r)) ≡ q
@@ -32,12 +32,11 @@ length-assembled header security text mac trailer =
     omega arith
 
 -- securing puts a security header and a MAC between the parts of a clear frame, and lengthens it by these
-pub length-securing : (k : Kind) (clear header security text mac : List ℕ) → k .header clear + k .trailer clear ≤ length clear
+pub length-securing : (k : Kind) (clear header security text mac trailer : List ℕ) → k .header clear + k .trailer clear ≤ length clear
     → length header ≡ k .header clear → length text ≡ length (clearContent k clear) → length mac ≡ macLength
-    → length (assembled header security text mac (trailerOf k clear)) ≡ securedLength (length security) clear
-length-securing k clear header security text mac room h t m =
-    let a = length-assembled header security text mac (trailerOf k clear) in
-    let b = length-trailer k clear room in
+    → length trailer ≡ k .trailer clear → length (assembled header security text mac trailer) ≡ securedLength (length security) clear
+length-securing k clear header security text mac trailer room h t m f =
+    let a = length-assembled header security text mac trailer in
     let c = length-clear k clear room in
     omega arith
 
