@@ -235,7 +235,7 @@ module _ (h : Held) (k : Kind) (lawfully : frames.Lawful k) (spi n : ℕ) (clear
   pub spi-secured : spi < 2 ^ 16 → spiIn k S ≡ spi
   unfolding rest
   spi-secured small-spi =
-      ap (number 2) (ap (drop (k .header S)) shape ∙ drop-at (head h k clear) rest (k .header S) at-head ∙ append-assoc (bytes 2 spi) _ _)
+      ap (number 2) (ap (drop (k .header S)) shape ∙ drop-at (head h k clear) rest (k .header S) (at-head ∙ ap (k .header) (sym is-A)) ∙ append-assoc (bytes 2 spi) _ _)
       ∙ number-front 2 (bytes 2 spi) _ (length-bytes 2 spi)
       ∙ number-bytes 2 spi (omega arith)
 

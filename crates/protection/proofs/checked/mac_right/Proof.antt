@@ -19,7 +19,7 @@ use Rattle.protection.proofs.checked.mac_right.Statement.{statement}
 use Rattle.protection.proofs.checked.mac_right.Tie as tie
 
 abbrev start : tie.After-mask → tie.Start
-start c = c .before .before .before .before
+start c = c .before .before .before .before .before
 
 abbrev opened : tie.After-cover → tie.After-mask
 opened c = c .before .before

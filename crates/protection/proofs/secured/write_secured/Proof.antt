@@ -199,7 +199,7 @@ maced c =
     assembling.with-mac (securing p) (text-in t) (texted t) (t .write-text .result) (mac-in c) (signed t) a
     (ap₂ _+_ (measured p .content) (measured p .security)) (c .put-behind .ensures)
 
--- ---- the trailer
+-- ---- the control field
 
 sub-put-behind : tie.Need-sub-put-behind
 sub-put-behind c = omega (arith, measured (parts-at (headers-at (text-at (c .before .before)))))
@@ -207,20 +207,56 @@ sub-put-behind c = omega (arith, measured (parts-at (headers-at (text-at (c .bef
 part-put-behind-start : tie.Need-part-put-behind-start
 part-put-behind-start c = omega (arith, measured (parts-at (headers-at (text-at (c .before .before)))))
 
+part-put-behind-end : tie.Need-part-put-behind-end
+part-put-behind-end c = omega (arith, measured (parts-at (headers-at (text-at (c .before .before)))))
+
 add-put-behind-2 : tie.Need-add-put-behind-2
 add-put-behind-2 c = record { fits = omega (arith, measured (parts-at (headers-at (text-at (c .before .before .before))))) }
 
 add-put-behind-3 : tie.Need-add-put-behind-3
 add-put-behind-3 c = record { fits = omega (arith, measured (parts-at (headers-at (text-at (c .before .before .before))))) }
 
-returns : tie.Need-returns
-returns c =
-    let b = c .before .before .before .before .before .before .before in
+abbrev mac-at : tie.After-put-behind2 → tie.After-put-behind
+mac-at c = c .before .before .before .before .before
+
+abbrev control-in : tie.After-put-behind2 → List ℕ
+control-in c = c .put-behind2 .last .1 .1 .0
+
+copied : (c : tie.After-put-behind2) → let s = securing (parts-at (headers-at (text-at (mac-at c)))) in
+    control-in c ≡ written (assembling.to-control s) (s .out)
+copied c =
+    let b = mac-at c in
     let p = parts-at (headers-at (text-at b)) in
     let a = p .clear-parts .result .content + p .before .before .security-length .result + 16 in
-    let last = c .before .before .put-behind2 in
-    assembling.with-trailer (securing p) (mac-in b) (maced b) (trailer-lent p) (last .last .1 .1 .0) (trailer-is p) a
-    (ap₂ (λ (x y : ℕ). x + y + 16) (measured p .content) (measured p .security)) (last .ensures)
+    assembling.with-control (securing p) (mac-in b) (maced b) (control-lent p) (control-in c) (control-is p) a
+    (ap₂ (λ (x y : ℕ). x + y + 16) (measured p .content) (measured p .security)) (c .put-behind2 .ensures)
+
+-- ---- the check field
+
+add-close : tie.Need-add-close
+add-close c = record { fits = omega (arith, measured (parts-at (headers-at (text-at (mac-at (c .before .before)))))) }
+
+add-close-2 : tie.Need-add-close-2
+add-close-2 c = record { fits = omega (arith, measured (parts-at (headers-at (text-at (mac-at (c .before .before)))))) }
+
+close-requires : tie.Need-close-requires
+close-requires c κs =
+    let b = c .before .before .before in
+    let p = parts-at (headers-at (text-at (mac-at b))) in
+    let s = securing p in
+    let m = measured p in
+    let l = assembling.long-control s (control-in b) (copied b) in
+    let f = s .law .counted (s .frame) in
+    omega (arith, m, l, f)
+
+returns : tie.Need-returns
+returns c =
+    let closing = c .before .before in
+    let b = closing .before .before .before .before in
+    let p = parts-at (headers-at (text-at (mac-at b))) in
+    let a = p .clear-parts .result .control + p .before .before .security-length .result + 16 in
+    assembling.with-field (securing p) (control-in b) (copied b) a
+    (ap₂ (λ (x y : ℕ). x + y + 16) (measured p .control) (measured p .security)) (closing .close .last .1 .1 .0) (closing .close .ensures)
 
 pub write-secured-spec : {M : Type 1} → statement M
 write-secured-spec =
@@ -228,5 +264,5 @@ write-secured-spec =
     (tie.spec (λ c κs. search needs) (λ c κs. search needs) (λ c κs. search needs) (λ c. search needs) (λ c κs.
     search needs) (λ c. search needs) slice-aggregate-write-headers write-headers-requires (λ c. search needs)
     slice-aggregate-write-text sub-write-text part-write-text-start part-write-text-end write-text-requires (λ c. search
-    needs) add-put-behind (λ c κs. search needs) sub-put-behind part-put-behind-start (λ c. search needs)
-    add-put-behind-2 add-put-behind-3 (λ c κs. search needs) (λ c. search needs) returns)
+    needs) add-put-behind (λ c κs. search needs) sub-put-behind part-put-behind-start part-put-behind-end
+    add-put-behind-2 add-put-behind-3 (λ c κs. search needs) add-close add-close-2 close-requires (λ c. search needs) returns)
