@@ -31,7 +31,7 @@ use Rattle.judging.proofs.receiving.judge_receiving.Tie as tie
 -- ---- the places that are looked back to: from each test to the one before it
 
 abbrev start : tie.After-too-short → tie.Start
-start c = c .before .before .before .before .before
+start c = c .before .before .before .before .before .before
 
 abbrev at-length : tie.After-clear-length → tie.After-too-short
 at-length c = c .before .before
