@@ -104,7 +104,15 @@ pub fn admit_sending(
 {
     let asked = kind_of(kind);
     admit(
-        image, numbers, kind, field, asked, spi, SENDING, frame, false,
+        image,
+        numbers,
+        kind,
+        field,
+        asked,
+        spi,
+        SENDING,
+        frame,
+        false,
     )
 }
 
@@ -121,6 +129,14 @@ pub fn admit_receiving(
     let asked = kind_of(kind);
     let spi = spi_on(asked, frame);
     admit(
-        image, numbers, kind, field, asked, spi, RECEIVING, frame, true,
+        image,
+        numbers,
+        kind,
+        field,
+        asked,
+        spi,
+        RECEIVING,
+        frame,
+        true,
     )
 }

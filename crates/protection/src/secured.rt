@@ -37,7 +37,13 @@ fn write_headers(framing: Framing, size: usize, security: &[u8], frame: &[u8], o
 
 // The data as it goes out, behind the headers that stand in the output, and its MAC. What the MAC covers before the data is read from the
 // output, where the length is rewritten already.
-fn write_text(framing: Framing, held: Held, security: &[u8], clear: &[u8], output: &mut [u8]) -> [u8; 16]
+fn write_text(
+    framing: Framing,
+    held: Held,
+    security: &[u8],
+    clear: &[u8],
+    output: &mut [u8],
+) -> [u8; 16]
     requires { ⌜ (length (now security) ≡ securityLength held) × (length (now clear) ≤ 2048) × (framed framing .header (now output) + securityLength held + length (now clear) ≤ length (now output)) ⌝ }
     ensures { λ r. ⌜ r ≡ macUnder held (now (security .entry)) (coveredIn held (framed framing) (now (output .entry))) (textUnder held (now (security .entry)) (now (clear .entry))) ⌝ }
     ensures { λ _. ⌜ now (output .exit) ≡ take (framed framing .header (now (output .entry)) + securityLength held) (now (output .entry)) ++ written (textUnder held (now (security .entry)) (now (clear .entry))) (drop (framed framing .header (now (output .entry)) + securityLength held) (now (output .entry))) ⌝ }
@@ -66,7 +72,14 @@ fn close(framing: Framing, n: usize, output: &mut [u8])
 }
 
 // The secured frame of a clear one.
-pub fn write_secured(framing: Framing, held: Held, spi: u16, n: u32, frame: &[u8], output: &mut [u8])
+pub fn write_secured(
+    framing: Framing,
+    held: Held,
+    spi: u16,
+    n: u32,
+    frame: &[u8],
+    output: &mut [u8],
+)
     requires { ⌜ Securable held (framed framing) (now frame) (length (now output)) ⌝ }
     ensures { λ _. ⌜ now (output .exit) ≡ written (securedFrame held (framed framing) spi n (now (frame .entry))) (now (output .entry)) ⌝ }
 {
@@ -85,7 +98,13 @@ pub fn write_secured(framing: Framing, held: Held, spi: u16, n: u32, frame: &[u8
         frame,
         output,
     );
-    let mac = write_text(framing, held, &octets[..long], &frame[header..content], output);
+    let mac = write_text(
+        framing,
+        held,
+        &octets[..long],
+        &frame[header..content],
+        output,
+    );
     put_behind(&mac, content + long, output);
     put_behind(&frame[content..control], content + long + 16, output);
     close(framing, control + long + 16, output);
