@@ -8,6 +8,8 @@ The answers are read off document 01 ('Frames', 'The image', 'What comes back') 
 import argparse
 import os
 
+from check_field import check_field
+
 TC_FIELDS = [("version", 2), ("bypass", 1), ("control", 1), ("spare", 2), ("spacecraft", 10), ("channel", 6), ("length", 10), ("sequence", 8)]
 SEGMENT_FIELDS = [("flags", 2), ("map", 6)]
 TM_FIELDS = [("version", 2), ("spacecraft", 10), ("channel", 3), ("ocf", 1), ("master", 8), ("virtual", 8), ("status", 16)]
@@ -40,18 +42,6 @@ def unpack(kind, frame):
 
 def version(kind):
     return 1 if kind == 4 else 0
-
-
-def check_field(octets):
-    """The frame error control field: long division of the message's bits, preset with ones, by x^16 + x^12 + x^5 + 1."""
-    bits = [int(b) for x in octets for b in format(x, "08b")] + [0] * 16
-    for i in range(16):
-        bits[i] ^= 1
-    for i in range(len(bits) - 16):
-        if bits[i]:
-            for power in (16, 12, 5, 0):
-                bits[i + 16 - power] ^= 1
-    return int("".join(str(b) for b in bits[-16:]), 2).to_bytes(2, "big")
 
 
 def trailer(kind, field, frame):
