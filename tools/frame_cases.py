@@ -1,7 +1,8 @@
 #!/usr/bin/env python3
 """Makes crates/frame_cases/stdin, the frames, and crates/frame_cases/stdout, the answers expected on them.
 
-The answers are read off document 01 ('Frames', 'The image', 'What comes back') and document 02 (requests 1 and 4) here, over strings of bits, and not off the code:
+The answers are read off document 01 ('Frames', 'The image', 'What comes back') and document 02 (requests 1 and 4) here, over strings of bits, and not off
+the code:
 
   python3 tools/frame_cases.py
 """

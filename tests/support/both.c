@@ -34,8 +34,8 @@ static void print_octets(const char *name, const uint8_t *octets, size_t length)
 
 static void print_input(const struct input *input)
 {
-    fprintf(stderr, "  call %s, kind %u, check field %u, spi %u, output of %zu octets\n", call_names[input->which], input->kind, input->check_field, input->spi,
-            input->output_length);
+    fprintf(stderr, "  call %s, kind %u, check field %u, spi %u, output of %zu octets\n", call_names[input->which], input->kind,
+            input->check_field, input->spi, input->output_length);
     print_octets("image", input->image, input->image_length);
     fprintf(stderr, "  numbers, %zu:", input->numbers_length);
     for (size_t i = 0; i < input->numbers_length; i++) {

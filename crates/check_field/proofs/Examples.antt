@@ -6,6 +6,6 @@ use Rattle.octets.specs.Numbers.{number}
 use Rattle.check_field.specs.Polynomials.{remainder}
 use Rattle.check_field.specs.CheckField.{checkFieldOf, checkField}
 
-digits : checkField (0x31 ∷ 0x32 ∷ 0x33 ∷ 0x34 ∷ 0x35 ∷ 0x36 ∷ 0x37 ∷ 0x38 ∷ 0x39 ∷ []) ≡ 0x29b1
+nine-digits : checkField (0x31 ∷ 0x32 ∷ 0x33 ∷ 0x34 ∷ 0x35 ∷ 0x36 ∷ 0x37 ∷ 0x38 ∷ 0x39 ∷ []) ≡ 0x29b1
 unfolding checkField checkFieldOf number remainder
-digits = refl
+nine-digits = refl

@@ -38,10 +38,6 @@ field-take n s h =
 
 -- ---- a message with its field
 
-pub length-with : (m : List ℕ) → length (withField m) ≡ length m + 2
-unfolding withField
-length-with m = simp (length-append, length-bytes)
-
 pub right-with : (m : List ℕ) → rightField (withField m) ≡ true
 unfolding rightField withField
 right-with m =

@@ -4,7 +4,6 @@ use mathlib.Core.Path.{_≡_, refl, sym, ap, ap₂, _∙_}
 use Prim.Native.Nat.{ℕ, zero, suc, _+_, _*_, _/_, _%_, _^_, _<_}
 use native.Mathlib.Omega.{arith}
 use native.Mathlib.Nat.{mod-lt, zero-add, mul-assoc, mul-one, pow-suc, div-add-mod', div-eq-of-lt}
-use native.Mathlib.Numerals.{add-one}
 use lib.Bits.{xor-self, xor-block, xor-comm, xor-lt, xor-shifted, xor-zero-r}
 use lib.Dec.{lit<}
 use Rattle.octets.specs.Xor.{_⊕_}

@@ -270,7 +270,7 @@ pub(crate) fn shift_table() -> [u16; 256]
     SHIFTS
 }
 
-fn shifted(table: &[u16; 256], octet: u8) -> u16
+fn shifted_octet(table: &[u16; 256], octet: u8) -> u16
     requires { ⌜ IsTable 256 shiftedOctet (now table) ⌝ }
     ensures { λ r. ⌜ r ≡ shiftedOctet octet ⌝ }
 {
@@ -282,5 +282,5 @@ pub(crate) fn enter(table: &[u16; 256], register: u16, octet: u8) -> u16
     requires { ⌜ IsTable 256 shiftedOctet (now table) ⌝ }
     ensures { λ r. ⌜ r ≡ entered register octet ⌝ }
 {
-    (register % 256 * 256) ^ shifted(table, (register / 256) as u8 ^ octet)
+    (register % 256 * 256) ^ shifted_octet(table, (register / 256) as u8 ^ octet)
 }

@@ -1,11 +1,11 @@
 -- A closed frame: what it is closed with stands behind all else, so its parts lie where they lay, and its field is right.
 -- Assumes nothing.
 use Prim.Native.Nat.{ℕ, _+_, _-_, _≤_}
-use mathlib.Core.Path.{_≡_, refl, sym, ap, _∙_}
+use mathlib.Core.Path.{_≡_, refl, sym, _∙_}
 use mathlib.Core.Bool.{Bool, true, false, _||_, not, cond}
 use mathlib.Core.List.{List, [], _++_, append-assoc, append-nil}
 use native.Mathlib.Omega.{arith}
-use lib.ListN.{length, length-append}
+use lib.ListN.{length}
 use lib.Seq.{length-slice}
 use Rattle.octets.specs.Numbers.{bytes}
 use Rattle.octets.proofs.Numbers.{length-bytes}
@@ -17,8 +17,8 @@ use Rattle.frame.specs.Parts.{trailerStart, controlEnd}
 use Rattle.frame.proofs.Assembled.{assembled}
 
 -- what closes a frame: its check field, or nothing
-abbrev pub made : Kind → List ℕ → List ℕ
-made k front = cond (k .endsInField) (bytes 2 (checkField front)) []
+abbrev pub madeField : Kind → List ℕ → List ℕ
+madeField k front = cond (k .endsInField) (bytes 2 (checkField front)) []
 
 -- over whether there is a field
 module _ (front : List ℕ) where
@@ -36,11 +36,11 @@ module _ (front : List ℕ) where
   right-by false = refl
 
 module _ (k : Kind) where
-  pub closed-made : (front : List ℕ) → closed k front ≡ front ++ made k front
+  pub closed-made : (front : List ℕ) → closed k front ≡ front ++ madeField k front
   unfolding closed
   closed-made front = closed-by front (k .endsInField)
 
-  pub length-made : (front : List ℕ) → length (made k front) ≡ checkFieldLength (k .endsInField)
+  pub length-made : (front : List ℕ) → length (madeField k front) ≡ checkFieldLength (k .endsInField)
   length-made front = length-by front (k .endsInField)
 
   pub closed-ok : (front : List ℕ) → fieldOk k (closed k front) ≡ true
@@ -56,6 +56,6 @@ module _ (k : Kind) where
 
   pub closed-assembled : (header security text mac control : List ℕ)
       → closed k (assembled header security text mac control)
-      ≡ assembled header security text mac (control ++ made k (assembled header security text mac control))
+      ≡ assembled header security text mac (control ++ madeField k (assembled header security text mac control))
   closed-assembled header security text mac control =
       closed-made (assembled header security text mac control) ∙ simp append-assoc

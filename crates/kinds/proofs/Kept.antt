@@ -1,4 +1,4 @@
--- What rewriting the length keeps, shown once for each kind and stated once over all of them: every octet but the length field's, and of a
+-- What rewriting the length keeps, with a check field or without, shown once for each kind and stated once over all of them: every octet but the length field's, and of a
 -- frame that begins with the rewritten header the rules, the lengths of header and trailer and the identifiers.
 -- Assumes nothing.
 use Prim.Native.Nat.{ℕ, _+_, _-_, _*_, _/_, _%_, _≤_, _<_}
@@ -38,6 +38,7 @@ built k n frame rest = k .withLength n (take (k .header frame) frame) ++ rest
 pub record Lawful (k : Kind) : Type 0 where
   pub long : (n : ℕ) (s : List ℕ) → length (k .withLength n s) ≡ length s
   pub other : (n : ℕ) (s : List ℕ) (j : ℕ) → j ≢ 2 → j ≢ 3 → octet (k .withLength n s) j ≡ octet s j
+  -- f has room for the check field
   pub counted : (frame : List ℕ) → checkFieldLength (k .endsInField) ≤ k .trailer frame
   pub sameHeader : (n : ℕ) (frame rest : List ℕ) → k .header frame ≤ length frame → k .header (built k n frame rest) ≡ k .header frame
   pub keeps : (n : ℕ) (frame rest : List ℕ) → k .rules frame ≡ true → k .header frame ≤ length frame

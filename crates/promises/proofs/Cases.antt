@@ -3,7 +3,6 @@
 use Prim.Native.Nat.{ℕ}
 use mathlib.Core.Path.{_≡_, refl, ap, _∙_}
 use mathlib.Core.Bool.{true, false}
-use mathlib.Core.List.{List}
 use lib.ListN.{length}
 use Rattle.check_field.proofs.Laws.{right-with}
 use Rattle.kinds.specs.Kinds.{Kind}
@@ -52,9 +51,9 @@ fronts-exceed : Fronts (sees 1003) k (fieldedTc 1003) false
 unfolding everything fieldedTc
 fronts-exceed = record { valid = refl; agree = refl; rules = refl; field = right 1003; found = refl }
 
-passes : first (sendingTests (heldBy (sees 1002)) (theOne (sees 1002 .found) .number) k (fieldedTc 1002) (length room)) ≡ 0
+passes-all : first (sendingTests (heldBy (sees 1002)) (theOne (sees 1002 .found) .number) k (fieldedTc 1002) (length room)) ≡ 0
 unfolding everything fieldedTc
-passes = refl
+passes-all = refl
 
 too-long : first (sendingTests (heldBy (sees 1003)) (theOne (sees 1003 .found) .number) k (fieldedTc 1003) (length room)) ≡ 11
 unfolding everything fieldedTc
@@ -67,7 +66,7 @@ sized = refl
 pub field-counted : FieldCounted
 unfolding secured
 field-counted =
-    let done = decided 1002 fronts-fit ∙ passes in
+    let done = decided 1002 fronts-fit ∙ passes-all in
     record {
       done = left-answer (reply 1002) imageB (oneNumber 63) room ∙ done;
       size = ap (λ (x : Left). x .length) (left-done (reply 1002) imageB (oneNumber 63) room done) ∙ sized;

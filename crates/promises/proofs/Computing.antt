@@ -38,9 +38,9 @@ unfolding named tcWithLength headerOf clearContent securityOf securedContent obe
 frames = tt
 
 -- the check field, where a frame is short enough for it
-unfoldable pub fields : Unit {0}
+unfoldable pub closings : Unit {0}
 unfolding remainder checkFieldOf checkField withField rightField controlOf closed fieldOk
-fields = tt
+closings = tt
 
 -- in the promises' words
 unfoldable pub forms : Unit {0}
@@ -69,5 +69,5 @@ unfolding imageWith securedC clearTc room
 examples = tt
 
 unfoldable pub everything : Unit {0}
-unfolding octets frames fields forms images associations replies calls examples
+unfolding octets frames closings forms images associations replies calls examples
 everything = tt

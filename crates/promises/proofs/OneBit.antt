@@ -1,28 +1,24 @@
 -- A frame with one bit changed breaks its kind's rules, or it does not and then its field is wrong: 12 comes next.
 -- Assumes nothing.
 use Prim.Native.Nat.{ℕ}
-use mathlib.Core.Path.{_≡_, refl, sym, ap, _∙_}
-use mathlib.Core.Bool.{Bool, true, false, _||_, not}
+use mathlib.Core.Path.{_≡_, refl}
+use mathlib.Core.Bool.{Bool, true, false, not}
 use mathlib.Core.Logic.{_⊎_, inl, inr}
 use mathlib.Core.List.{List, _∷_, _++_}
 use lib.ListN.{length}
-use Rattle.octets.specs.Lists.{Octets}
 use Rattle.check_field.specs.CheckField.{rightField}
 use Rattle.check_field.proofs.Laws.{right-flipped}
 use Rattle.kinds.specs.Kinds.{Kind}
 use Rattle.frame.specs.Closing.{fieldOk}
 use Rattle.frame.specs.Rules.{obeys}
-use Rattle.image.specs.Image.{validImage}
 use Rattle.association.specs.Association.{isNone}
-use Rattle.association.specs.Numbers.{agrees}
 use Rattle.link.specs.Calls.{securingReply, secured, comparison, checkingReply, checkedAs, checked}
 use Rattle.judging.specs.Answers.{Test, first}
 use Rattle.judging.specs.Replies.{Seen, seen, frontTests, securingTests, securing, checkingTests, checking}
 use Rattle.judging.specs.Said.{Said, kindSaid}
 use Rattle.judging.specs.Wants.{securingWants, checkingWants}
 use Rattle.link.proofs.Leaving.{left-answer}
-use Rattle.promises.specs.Images.{ImageRules, Agreeing}
-use Rattle.promises.specs.OneBit.{flipped, Closed, OneBit}
+use Rattle.promises.specs.OneBit.{flipped, BitOf, OneBit}
 use Rattle.promises.proofs.Readings.{field-tested}
 use Rattle.promises.proofs.Valids.{rules-valid, agreement-tested}
 
@@ -39,7 +35,7 @@ by-rules see k frame secured behind v a f = rw (v, a, f) (by-test (obeys k frame
     by-test false = inl refl
 
 -- the field was right, and is wrong
-wrong-now : (said : Said) (frame : List ℕ) (p b : ℕ) → Closed said frame p b → fieldOk (kindSaid said) (flipped p b frame) ≡ false
+wrong-now : (said : Said) (frame : List ℕ) (p b : ℕ) → BitOf said frame p b → fieldOk (kindSaid said) (flipped p b frame) ≡ false
 unfolding fieldOk
 wrong-now said frame p b c =
     let was : rightField frame ≡ true = rw (c .said-so) at (field-tested said frame (c .field)) in

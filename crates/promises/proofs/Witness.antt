@@ -1,6 +1,7 @@
 -- The promises are not empty. Under both services and every kind there are two ends that meet the conditions of the round trip; every
--- answer is given, with a check field and without; a bit of a frame may change; runs send and release, and one meets the bound on stores; the same with TM associations of two channels, in version 2;
--- and two images of different projects share an entry, or have none for a frame. All of it by computing.
+-- answer is given, with a check field and without; a bit of a frame may change; runs send and release, and one meets the bound on stores;
+-- the same with TM associations of two channels, in version 2; and two images of different projects share an entry, or have none for a
+-- frame. All of it by computing.
 -- Assumes nothing.
 use Prim.Native.Nat.{ℕ, _+_, _<_}
 use mathlib.Core.Path.{_≡_, refl, _∙_}
@@ -26,7 +27,7 @@ use Rattle.promises.specs.Cases.{allTrue, imageWith, imageOf, oneNumber,
 use Rattle.promises.specs.Cases.{bare, fielded}
 use Rattle.promises.specs.Frames.{dataInClear, spiOn, numberOn}
 use Rattle.promises.specs.Isolation.{Standing, both, neither, SameAnswer}
-use Rattle.promises.specs.OneBit.{flipped, Closed}
+use Rattle.promises.specs.OneBit.{flipped, BitOf}
 use Rattle.promises.specs.RoundTrip.{Released}
 use Rattle.promises.specs.Runs.{Shown, load, send, check, sendCut, after, ran, trace, shows, restart, sent, released, sentIn, begun}
 use Rattle.promises.specs.Runs.{shownOf}
@@ -242,19 +243,19 @@ bits-seen = refl
 
 -- any bit of a frame whose octets are octets and whose field is right
 any-bit : (said : Said) (frame : List ℕ) → said .checkField ≡ true → areOctets frame ≡ true → fieldOk (kindSaid said) frame ≡ true
-    → (p b : ℕ) → p < length frame → b < 8 → Closed said frame p b
+    → (p b : ℕ) → p < length frame → b < 8 → BitOf said frame p b
 any-bit said frame present octets right p b place bit =
     record { octets = octets-of frame octets; said-so = present; field = field-kept said frame right; place = place; bit = bit }
 
-pub bits-of-clear : (p b : ℕ) → p < 8 → b < 8 → Closed (fielded 1) fieldedFrame p b
+pub bits-of-clear : (p b : ℕ) → p < 8 → b < 8 → BitOf (fielded 1) fieldedFrame p b
 unfolding everything
 bits-of-clear = any-bit (fielded 1) fieldedFrame refl refl refl
 
-pub bits-of-ocf : (p b : ℕ) → p < 13 → b < 8 → Closed (fielded 3) fieldedOcf p b
+pub bits-of-ocf : (p b : ℕ) → p < 13 → b < 8 → BitOf (fielded 3) fieldedOcf p b
 unfolding everything
 bits-of-ocf = any-bit (fielded 3) fieldedOcf refl refl refl
 
-pub bits-of-secured : (p b : ℕ) → p < 30 → b < 8 → Closed (fielded 1) fieldedSecured p b
+pub bits-of-secured : (p b : ℕ) → p < 30 → b < 8 → BitOf (fielded 1) fieldedSecured p b
 unfolding everything
 bits-of-secured = any-bit (fielded 1) fieldedSecured refl refl refl
 

@@ -1,5 +1,6 @@
--- Cases A to L of document 01, as one list of tests, and case L with a check field. The ciphers are never computed: a check is asked what it does where the comparison of
--- the MAC falls out well, and of a frame that goes out its length and its first 12 octets are read. It supposes nothing.
+-- Cases A to L of document 01, as one list of tests, and case L with a check field. The ciphers are never computed: a check is asked what
+-- it does where the comparison of the MAC falls out well, and of a frame that goes out its length and its first 12 octets are read. It
+-- supposes nothing.
 -- Assumes nothing.
 use Prim.Native.Nat.{ℕ, _+_, _-_, _/_, _%_}
 use mathlib.Core.Path.{_≡_}

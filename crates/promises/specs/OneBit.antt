@@ -22,7 +22,7 @@ abbrev pub flipped : ℕ → ℕ → List ℕ → List ℕ
 flipped p b frame = set frame p (octet frame p ⊕ 2 ^ b)
 
 -- a frame with a right field, one of whose bits is meant
-pub record Closed (said : Said) (frame : List ℕ) (p b : ℕ) : Type 0 where
+pub record BitOf (said : Said) (frame : List ℕ) (p b : ℕ) : Type 0 where
   pub octets : Octets frame
   pub said-so : said .checkField ≡ true
   pub field : RightField said frame
@@ -34,6 +34,6 @@ ThreeOrTwelve x = (x .answer ≡ 3) ⊎ (x .answer ≡ 12)
 
 pub record OneBit : Type 0 where
   pub sending : (image numbers : List ℕ) (said : Said) (spi : ℕ) (frame output : List ℕ) (p b : ℕ) → Octets image → ImageRules image
-      → Agreeing image numbers → Closed said frame p b → ThreeOrTwelve (secured image numbers said spi (flipped p b frame) output)
+      → Agreeing image numbers → BitOf said frame p b → ThreeOrTwelve (secured image numbers said spi (flipped p b frame) output)
   pub checking : (image numbers : List ℕ) (said : Said) (frame output : List ℕ) (p b : ℕ) → Octets image → ImageRules image
-      → Agreeing image numbers → Closed said frame p b → ThreeOrTwelve (checked image numbers said (flipped p b frame) output)
+      → Agreeing image numbers → BitOf said frame p b → ThreeOrTwelve (checked image numbers said (flipped p b frame) output)

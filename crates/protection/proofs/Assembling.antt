@@ -12,7 +12,7 @@ use Rattle.frame.specs.Closing.{controlOf, closed}
 use Rattle.frame.specs.Parts.{headerOf, securityOf, trailerStart, controlEnd}
 use Rattle.kinds.proofs.Kept.{Lawful}
 use Rattle.frame.proofs.Assembled.{assembled}
-use Rattle.frame.proofs.Closed.{made, length-control, closed-made}
+use Rattle.frame.proofs.Closed.{madeField, length-control, closed-made}
 use Rattle.frame.proofs.Room.{length-clear}
 use Rattle.octets.specs.Output.{written, fronted}
 use Rattle.octets.proofs.Filling.{length-written, with-room, behind}
@@ -212,7 +212,7 @@ module _ (s : Securing) where
           ap (take a) w ∙ take-at (to-control s) (drop (length (to-control s)) (s .out)) a (length-to-control ∙ sym e)
           in
           let pieces : to-control s ≡ assembled (header s) (security s) (text s) (mac s) (controlOf k (s .frame)) = simp append-assoc in
-          let over = length-append (to-control s) (made k (to-control s)) in
+          let over = length-append (to-control s) (madeField k (to-control s)) in
           r
           ∙ ap (λ (t : List ℕ). written (closed k t) whole) front
           ∙ ap (written (closed k (to-control s))) w

@@ -3,7 +3,7 @@
 -- kind.
 -- Assumes nothing.
 use Prim.Native.Nat.{ℕ, _+_, _^_, _≤_, _<_}
-use mathlib.Core.Path.{_≡_, refl, sym, ap, ap₂, _∙_}
+use mathlib.Core.Path.{_≡_, sym, ap, ap₂, _∙_}
 use mathlib.Core.Bool.{true, false}
 use mathlib.Core.List.{List, _++_, append-assoc}
 use native.Mathlib.Omega.{arith}
@@ -23,7 +23,7 @@ use Rattle.frame.proofs.Assembled as assembled
 use Rattle.kinds.proofs.Kept as frames
 use Rattle.kinds.proofs.Kept.{Kept, built}
 use Rattle.frame.proofs.Rebuilt.{obeys-again}
-use Rattle.frame.proofs.Closed.{made, length-made, length-control, closed-ok, closed-assembled}
+use Rattle.frame.proofs.Closed.{madeField, length-made, length-control, closed-ok, closed-assembled}
 use Rattle.frame.proofs.Room.{Obeys, obeyed, length-header}
 use Rattle.association.specs.declared.held.Held.{Held}
 use Rattle.services.specs.SecurityHeader.{serviceIn, securityLength, fieldFor, numberFrom}
@@ -68,7 +68,7 @@ front h k spi n clear =
     assembled.assembled (head h k clear) (security h spi n) (text h k n clear) (mac h k spi n clear) (controlOf k clear)
 
 abbrev trailer : Held → Kind → ℕ → ℕ → List ℕ → List ℕ
-trailer h k spi n clear = controlOf k clear ++ made k (front h k spi n clear)
+trailer h k spi n clear = controlOf k clear ++ madeField k (front h k spi n clear)
 
 as-assembled : (h : Held) (k : Kind) (spi n : ℕ) (clear : List ℕ)
     → securedFrame h k spi n clear
@@ -93,7 +93,7 @@ module _ (h : Held) (k : Kind) (law : frames.Lawful k) (clear : List ℕ) (room 
 
   length-trailer : (spi n : ℕ) → length (trailer h k spi n clear) ≡ k .trailer clear
   length-trailer spi n =
-      let a = length-append (controlOf k clear) (made k (front h k spi n clear)) in
+      let a = length-append (controlOf k clear) (madeField k (front h k spi n clear)) in
       let b = length-control k clear room (law .counted clear) in
       let c = length-made k (front h k spi n clear) in
       omega arith
@@ -197,7 +197,7 @@ module _ (h : Held) (k : Kind) (lawfully : frames.Lawful k) (spi n : ℕ) (clear
   control-read =
       ap (controlOf k) is-A
       ∙ assembled.control-read k (head h k clear) (security h spi n) (text h k n clear) (mac h k spi n clear) (controlOf k clear)
-      (made k (front h k spi n clear)) at-head long-mac at-trailer (length-made k (front h k spi n clear))
+      (madeField k (front h k spi n clear)) at-head long-mac at-trailer (length-made k (front h k spi n clear))
 
   pub field-right : fieldOk k S ≡ true
   unfolding securedFrame

@@ -11,7 +11,7 @@ use Rattle.check_field.proofs.table.enter.Tie as tie
 returns : tie.Need-returns
 returns c =
     let given = c .before .args in
-    ap (λ (x : ℕ). given .register % 256 * 256 ⊕ x) (c .shifted .ensures) ∙ sym (shifts-split (given .register) (given .octet) (search needs))
+    ap (λ (x : ℕ). given .register % 256 * 256 ⊕ x) (c .shifted-octet .ensures) ∙ sym (shifts-split (given .register) (given .octet) (search needs))
 
 pub enter-spec : {M : Type 1} → statement M
 enter-spec = tie.close (tie.spec (λ c. search needs) (λ c. search needs) (λ c κs. search needs) returns)
