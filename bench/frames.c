@@ -1,6 +1,7 @@
 // What a frame costs: `xistalvo_secure` and `xistalvo_check` on whole frames, and beside them the cipher work of the same frames by OpenSSL's
 // EVP and by libgcrypt, with the key set up for each frame. What the libraries make is compared with what the module made, for each line.
-// It prints a line for each kind, service, size and number of entries: microseconds a frame. bench/frames runs it and adds the ratios.
+// It prints a line for each kind, service, size and number of entries, and for frames with a check field, as TC+ and TM+: microseconds a
+// frame. bench/frames runs it and adds the ratios.
 #include "../include/xistalvo.h"
 
 #include <gcrypt.h>
@@ -19,7 +20,7 @@ static const uint8_t mask[6] = {0xff, 0xff, 0xfc, 0x00, 0xff, 0x00};
 
 // One association for sending and one for receiving, in two images of `entries` entries; the last entry is the one that serves.
 struct link {
-    uint8_t kind, service;
+    uint8_t kind, service, check_field;
     size_t entries, header, security, data, clear_length, secured_length;
     uint16_t spi;
     uint8_t key[KEY];
@@ -69,6 +70,17 @@ static void make_image(uint8_t *image, const struct link *l, uint8_t direction)
     }
 }
 
+// The check field, bit by bit.
+static size_t field_of(const uint8_t *octets, size_t length)
+{
+    uint16_t field = 0xffff;
+    for (size_t i = 0; i < 8 * length; i++) {
+        bool bit = (field >> 15 ^ octets[i / 8] >> (7 - i % 8)) & 1;
+        field = (uint16_t)(field << 1 ^ (bit ? 0x1021 : 0));
+    }
+    return field;
+}
+
 static void make_frame(struct link *l)
 {
     uint8_t *f = l->clear;
@@ -81,19 +93,22 @@ static void make_frame(struct link *l)
         put_two(f, 27);
         put_two(f + 2, 5 << 10 | (l->clear_length - 1));
     }
+    if (l->check_field)
+        put_two(f + l->clear_length - 2, field_of(f, l->clear_length - 2));
 }
 
-static struct link *make_link(uint8_t kind, uint8_t service, size_t data, size_t entries)
+static struct link *make_link(uint8_t kind, uint8_t check_field, uint8_t service, size_t data, size_t entries)
 {
     static struct link l;
     memset(&l, 0, sizeof l);
     l.kind = kind;
+    l.check_field = check_field;
     l.service = service;
     l.entries = entries;
     l.data = data;
     l.header = kind == XISTALVO_TC ? 5 : 6;
     l.security = service == 2 ? 14 : 6;
-    l.clear_length = l.header + data;
+    l.clear_length = l.header + data + (check_field ? 2 : 0);
     l.secured_length = l.clear_length + l.security + MAC;
     l.spi = 1000;
     for (size_t i = 0; i < KEY; i++)
@@ -113,8 +128,8 @@ static double secure_frames(struct link *l, size_t count)
     need(XISTALVO_ANSWER(xistalvo_load(l->here, size, numbers, XISTALVO_NUMBERS)) == 0, "a load was refused");
     double began = now();
     for (size_t i = 0; i < count; i++)
-        need(XISTALVO_ANSWER(xistalvo_secure(l->here, size, numbers, XISTALVO_NUMBERS, l->kind, l->spi, l->clear, l->clear_length, l->secured,
-                                             MOST)) == 0,
+        need(XISTALVO_ANSWER(xistalvo_secure(l->here, size, numbers, XISTALVO_NUMBERS, l->kind, l->check_field, l->spi, l->clear,
+                                             l->clear_length, l->secured, MOST)) == 0,
              "a sending was refused");
     return (now() - began) / (double)count;
 }
@@ -130,9 +145,10 @@ static double check_frames(struct link *l, size_t count)
     need(XISTALVO_ANSWER(xistalvo_load(l->here, size, sender, XISTALVO_NUMBERS)) == 0, "a load was refused");
     need(XISTALVO_ANSWER(xistalvo_load(l->there, size, receiver, XISTALVO_NUMBERS)) == 0, "a load was refused");
     for (size_t i = 0; i < count; i++) {
-        xistalvo_secure(l->here, size, sender, XISTALVO_NUMBERS, l->kind, l->spi, l->clear, l->clear_length, l->secured, MOST);
+        xistalvo_secure(l->here, size, sender, XISTALVO_NUMBERS, l->kind, l->check_field, l->spi, l->clear, l->clear_length, l->secured, MOST);
         double began = now();
-        uint64_t r = xistalvo_check(l->there, size, receiver, XISTALVO_NUMBERS, l->kind, l->secured, l->secured_length, l->released, MOST);
+        uint64_t r = xistalvo_check(l->there, size, receiver, XISTALVO_NUMBERS, l->kind, l->check_field, l->secured, l->secured_length,
+                                    l->released, MOST);
         spent += now() - began;
         need(XISTALVO_ANSWER(r) == 0 && XISTALVO_LENGTH(r) == l->data, "a check was refused");
     }
@@ -232,18 +248,19 @@ static double least(double a, double b)
     return a < b ? a : b;
 }
 
-static void measure(uint8_t kind, uint8_t service, size_t data, size_t entries, size_t octets)
+static void measure(uint8_t kind, uint8_t check_field, uint8_t service, size_t data, size_t entries, size_t octets)
 {
     double secure = 1e9, check = 1e9, openssl = 1e9, gcrypt = 1e9;
     size_t count = octets / (data + 256) + 1;
     for (int i = 0; i < ROUNDS; i++) {
-        struct link *l = make_link(kind, service, data, entries);
+        struct link *l = make_link(kind, check_field, service, data, entries);
         secure = least(secure, secure_frames(l, count));
         check = least(check, check_frames(l, count));
         openssl = least(openssl, by_openssl(l, count));
         gcrypt = least(gcrypt, by_gcrypt(l, count));
     }
-    printf("%s %u %zu %zu %.3f %.3f %.3f %.3f\n", kind == XISTALVO_TM ? "TM" : "TC", service, data, entries, secure, check, openssl, gcrypt);
+    printf("%s%s %u %zu %zu %.3f %.3f %.3f %.3f\n", kind == XISTALVO_TM ? "TM" : "TC", check_field ? "+" : "", service, data, entries, secure,
+           check, openssl, gcrypt);
 }
 
 int main(int count, char **arguments)
@@ -258,7 +275,8 @@ int main(int count, char **arguments)
         for (int k = 0; k < 2; k++)
             for (size_t s = 0; s < sizeof sizes / sizeof *sizes; s++)
                 for (size_t entries = 1; entries <= 32; entries += 31)
-                    if (k == 1 || sizes[s] <= 986)
-                        measure(k == 0 ? XISTALVO_TC : XISTALVO_TM, service, sizes[s], entries, octets);
+                    for (uint8_t field = 0; field <= 1; field++)
+                        if (k == 1 || sizes[s] <= 986)
+                            measure(k == 0 ? XISTALVO_TC : XISTALVO_TM, field, service, sizes[s], entries, octets);
     return 0;
 }

@@ -29,9 +29,9 @@ extern "C" {
 #endif
 
 /* The version of this interface. The second number rises where something is added, the first where a program has to change. */
-#define XISTALVO_VERSION_MAJOR 1
+#define XISTALVO_VERSION_MAJOR 2
 #define XISTALVO_VERSION_MINOR 0
-#define XISTALVO_VERSION "1.0"
+#define XISTALVO_VERSION "2.0"
 
 /* The managed numbers of one image, in elements. */
 #define XISTALVO_NUMBERS 32
@@ -74,6 +74,11 @@ extern "C" {
 #define XISTALVO_TM 3         /* telemetry, header of 6 octets, at most 2,048, perhaps with an operational control field (OCF) */
 #define XISTALVO_AOS 4        /* AOS, header of 6 octets with version 01, at most 2,048; no length field, insert zone or OCF */
 
+/* Whether frames end in a check field, the frame error control field of CCSDS 232.0 and 132.0, behind the OCF: clear and secured frames alike.
+ * Any number but 0 says that they do. AOS frames do not: where one is said to, the answer is 3. */
+#define XISTALVO_NO_CHECK_FIELD 0
+#define XISTALVO_CHECK_FIELD 1
+
 /* The directions. */
 #define XISTALVO_SEND 1
 #define XISTALVO_RECEIVE 2
@@ -99,7 +104,8 @@ enum xistalvo_answer {
     XISTALVO_NUMBER_REFUSED = 8,      /* The frame's number is outside the window, or above 4,294,967,295. */
     /* 9 is free: it was a padding error, which no call ever gave. */
     XISTALVO_NUMBERS_USED_UP = 10,    /* The last number is already 4,294,967,295; nothing more can be sent. */
-    XISTALVO_SECURED_TOO_LONG = 11    /* The secured frame would be longer than its kind allows. */
+    XISTALVO_SECURED_TOO_LONG = 11,   /* The secured frame would be longer than its kind allows. */
+    XISTALVO_CHECK_FIELD_DIFFERS = 12 /* The check field is not that of the octets before it. */
 };
 
 /* Load, secure and check return one number: bits 0 to 31 hold the length of the result in octets, bits 32 to 39 the number of octets
@@ -118,27 +124,28 @@ uint64_t xistalvo_load(const uint8_t *image, size_t image_length, uint32_t *numb
 
 /* Secures a clear frame under the association that has this SPI, for sending.
  *
- * Answers, in this order: 1, 2, 3 (a clear frame has at least one octet of data), 4 (with direction 'send'), 11, 6, 10, 0.
+ * Answers, in this order: 1, 2, 3 (a clear frame has at least one octet of data), 12, 4 (with direction 'send'), 11, 6, 10, 0.
  * Done: the number n is numbers[i] + 1, where i is the entry. First the mark of entry i is raised, one at a time, to n/64 rounded down, one
  * octet of the image stored for each raise; the stores are counted, here 0 or 1. The secured frame fills the start of the output: the
  * header, for TC with its length field rewritten; the SPI and n, in 4 octets (service 1) or 12 (service 2); the data, encrypted by
- * service 2; the MAC, 16 octets; the OCF if the frame has one. The length is that of the secured frame: 22 more than the clear frame's
- * (service 1) or 30 more (service 2). numbers[i] becomes n. The rest of the output, the rest of the image and the other numbers stay.
+ * service 2; the MAC, 16 octets; the OCF if the frame has one; and where the clear frame ends in a check field, a new one over all of that.
+ * The length is that of the secured frame: 22 more than the clear frame's (service 1) or 30 more (service 2). numbers[i] becomes n. The rest
+ * of the output, the rest of the image and the other numbers stay.
  * Refused: image, numbers and output stay as they were. The frame is never written. */
-uint64_t xistalvo_secure(uint8_t *image, size_t image_length, uint32_t *numbers, size_t numbers_length, uint8_t kind, uint16_t spi,
-                         const uint8_t *frame, size_t frame_length, uint8_t *output, size_t output_length);
+uint64_t xistalvo_secure(uint8_t *image, size_t image_length, uint32_t *numbers, size_t numbers_length, uint8_t kind, uint8_t check_field,
+                         uint16_t spi, const uint8_t *frame, size_t frame_length, uint8_t *output, size_t output_length);
 
 /* Checks a secured frame that was received, and releases its data.
  *
- * Answers, in this order: 1, 2, 3 (a secured frame has at least its SPI), 4 (the SPI of the frame, with direction 'receive'), 5, 6, 7, 8,
- * 0. The frame's number n is accepted where numbers[i] < n, n is at most numbers[i] + window
+ * Answers, in this order: 1, 2, 3 (a secured frame has at least its SPI), 12, 4 (the SPI of the frame, with direction 'receive'), 5, 6, 7,
+ * 8, 0. The frame's number n is accepted where numbers[i] < n, n is at most numbers[i] + window
  * and at most 4,294,967,295, over whole numbers, where i is the entry.
  * Done: first the mark of entry i is raised, one at a time, to n/64 rounded down, one octet of the image stored for each raise; the stores
- * are counted, at most 16. The clear data alone, without header and OCF, fills the start of the output, and the length is that of the data.
- * numbers[i] becomes n. The rest of the output, the rest of the image and the other numbers stay.
+ * are counted, at most 16. The clear data alone, without header, OCF and check field, fills the start of the output, and the length is that
+ * of the data. numbers[i] becomes n. The rest of the output, the rest of the image and the other numbers stay.
  * Refused: image, numbers and output stay as they were, and nothing is decrypted. The frame is never written. */
-uint64_t xistalvo_check(uint8_t *image, size_t image_length, uint32_t *numbers, size_t numbers_length, uint8_t kind, const uint8_t *frame,
-                        size_t frame_length, uint8_t *output, size_t output_length);
+uint64_t xistalvo_check(uint8_t *image, size_t image_length, uint32_t *numbers, size_t numbers_length, uint8_t kind, uint8_t check_field,
+                        const uint8_t *frame, size_t frame_length, uint8_t *output, size_t output_length);
 
 /* The cut: what a call that took this number leaves of the image when power fails after its first stores.
  *
@@ -165,6 +172,7 @@ static inline const char *xistalvo_answer_name(unsigned int answer)
     case XISTALVO_NUMBER_REFUSED: return "number outside the window";
     case XISTALVO_NUMBERS_USED_UP: return "numbers used up";
     case XISTALVO_SECURED_TOO_LONG: return "secured frame would be too long";
+    case XISTALVO_CHECK_FIELD_DIFFERS: return "check field differs";
     default: return "no answer of the module";
     }
 }

@@ -1,5 +1,5 @@
-/* The cases A to O of document 01 through the C interface, with the paper's own figures, and its slips; and the fields and limits of AOS
- * (document 02, request 1). Each call is also compared with the independent reading (support/both.h). */
+/* The cases A to O of document 01 through the C interface, with the paper's own figures, and its slips; and of document 02 the fields
+ * and limits of AOS (request 1), sets of channels (2) and the check field (4). Each call is also compared with the independent reading (support/both.h). */
 #include "support/both.h"
 
 #include <stdio.h>
@@ -40,6 +40,7 @@ static bool starts_with(const uint8_t *octets, const char *hex)
 struct setting {
     unsigned service, kind, direction, window;
     uint32_t mark;
+    bool has_field; /* frames end in a check field */
 };
 
 static size_t image_of(const struct setting *setting, uint8_t *image)
@@ -78,14 +79,15 @@ static void start_input(struct input *input, enum which_call which, const struct
     input->image_length = image_of(setting, input->image);
     input->numbers_length = NUMBER_COUNT;
     input->kind = (uint8_t)setting->kind;
+    input->check_field = setting->has_field ? 1 : 0;
     input->spi = 9;
     input->output_length = LARGEST_FRAME;
     memset(input->output, 0x5A, input->output_length);
 }
 
 /* A clear frame of spacecraft 27 and channel 5, of this length, all of its data AA; of kind 1 and length 6 it is that of case C. A TM frame
- * has an operational control field. */
-static size_t clear_frame(unsigned kind, size_t length, uint8_t *frame)
+ * has an operational control field. A check field is the last of the octets. */
+static size_t clear_frame(unsigned kind, bool has_field, size_t length, uint8_t *frame)
 {
     memset(frame, 0xAA, length);
     octets_of(kind == 4   ? "46 C5 00 00 00 00"
@@ -95,6 +97,9 @@ static size_t clear_frame(unsigned kind, size_t length, uint8_t *frame)
               frame);
     if (has_length_field(kind)) {
         write_tc_length(frame, length);
+    }
+    if (has_field) {
+        write_check_field(frame, length);
     }
     return length;
 }
@@ -117,8 +122,10 @@ struct a_case {
     uint32_t code_after;
 };
 
-#define SEND(service, kind, mark) {service, kind, 1, 100, mark}
-#define RECEIVE(service, kind, window, mark) {service, kind, 2, window, mark}
+#define SEND(service, kind, mark) {service, kind, 1, 100, mark, false}
+#define RECEIVE(service, kind, window, mark) {service, kind, 2, window, mark, false}
+#define SEND_WITH_FIELD(service, kind, mark) {service, kind, 1, 100, mark, true}
+#define RECEIVE_WITH_FIELD(service, kind, window, mark) {service, kind, 2, window, mark, true}
 #define LAST_NUMBER 4294967295u
 #define LAST_MARK 67108863u
 #define LAST_CODE 0x02000000u
@@ -169,6 +176,20 @@ static const struct a_case cases[] = {
     {"AOS: 2,019 gives 11, service 2", CALL_SECURE, SEND(2, 4, 0), 63, 2019, 0, 0, false, 11, 0, 0, 63, 0},
     {"AOS: 2,048 gives 11", CALL_SECURE, SEND(1, 4, 0), 63, 2048, 0, 0, false, 11, 0, 0, 63, 0},
     {"AOS: 2,049 gives 3", CALL_SECURE, SEND(1, 4, 0), 63, 2049, 0, 0, false, 3, 0, 0, 63, 0},
+    /* with a check field, which is counted in */
+    {"field: L, 1,002 gives 1,024", CALL_SECURE, SEND_WITH_FIELD(1, 1, 0), 63, 1002, 0, 0, false, 0, 1024, 1, 64, 1},
+    {"field: L, 1,003 gives 11", CALL_SECURE, SEND_WITH_FIELD(1, 1, 0), 63, 1003, 0, 0, false, 11, 0, 0, 63, 0},
+    {"field: M, 994 gives 1,024", CALL_SECURE, SEND_WITH_FIELD(2, 1, 0), 63, 994, 0, 0, false, 0, 1024, 1, 64, 1},
+    {"field: M, 995 gives 11", CALL_SECURE, SEND_WITH_FIELD(2, 1, 0), 63, 995, 0, 0, false, 11, 0, 0, 63, 0},
+    {"field: TC, an octet of data", CALL_SECURE, SEND_WITH_FIELD(1, 1, 0), 63, 8, 0, 0, false, 0, 30, 1, 64, 1},
+    {"field: TC, without data", CALL_SECURE, SEND_WITH_FIELD(1, 1, 0), 63, 7, 0, 0, false, 3, 0, 0, 63, 0},
+    {"field: TM, an octet of data and the OCF", CALL_SECURE, SEND_WITH_FIELD(1, 3, 0), 63, 13, 0, 0, false, 0, 35, 1, 64, 1},
+    {"field: TM, without data", CALL_SECURE, SEND_WITH_FIELD(1, 3, 0), 63, 12, 0, 0, false, 3, 0, 0, 63, 0},
+    {"field: TM, 2,026 gives 2,048", CALL_SECURE, SEND_WITH_FIELD(1, 3, 0), 63, 2026, 0, 0, false, 0, 2048, 1, 64, 1},
+    {"field: TM, neither OCF nor field is released", CALL_CHECK, RECEIVE_WITH_FIELD(1, 3, 100, 0), 63, 22, 64, 0, false, 0, 10, 1, 64, 1},
+    {"field: segment header, service 2", CALL_CHECK, RECEIVE_WITH_FIELD(2, 2, 100, 0), 63, 18, 64, 0, false, 0, 10, 1, 64, 1},
+    {"field: AOS may not have one", CALL_SECURE, SEND_WITH_FIELD(1, 4, 0), 63, 40, 0, 0, false, 3, 0, 0, 63, 0},
+    {"field: a wrong MAC under a right field", CALL_CHECK, RECEIVE_WITH_FIELD(1, 1, 100, 0), 63, 9, 64, 0, true, 7, 0, 0, 63, 0},
     /* the slips that can be seen from outside */
     {"slip: the window before the MAC", CALL_CHECK, RECEIVE(1, 1, 100, 0), 63, 6, 164, 0, true, 7, 0, 0, 63, 0},
     {"slip: the window before the MAC, service 2", CALL_CHECK, RECEIVE(2, 1, 100, 0), 63, 6, 164, 0, true, 7, 0, 0, 63, 0},
@@ -183,14 +204,17 @@ static void make_received(const struct a_case *a_case, struct input *input)
     struct table table;
     struct header header;
     uint8_t clear[FRAME_ROOM], sequence[SEQUENCE_LENGTH];
-    size_t length = clear_frame(a_case->setting.kind, a_case->clear_length, clear);
+    size_t length = clear_frame(a_case->setting.kind, a_case->setting.has_field, a_case->clear_length, clear);
     expect(read_image(input->image, input->image_length, &table), a_case->name, "the image breaks a rule");
-    expect(read_clear_frame(a_case->setting.kind, clear, length, &header), a_case->name, "the frame breaks a rule");
+    expect(read_clear_frame(a_case->setting.kind, a_case->setting.has_field, clear, length, &header), a_case->name, "the frame breaks a rule");
     sequence_of_number(a_case->number, sequence);
     sequence[0] = (uint8_t)(sequence[0] + a_case->first_octet);
     input->frame_length = protect_frame(&table.entries[0], &header, sequence, clear, length, input->frame);
     if (a_case->is_spoiled) {
         input->frame[input->frame_length - header.trailer - 1] ^= 1;
+        if (header.has_field) {
+            write_check_field(input->frame, input->frame_length); /* so that the MAC is all that is wrong */
+        }
     }
 }
 
@@ -202,7 +226,7 @@ static void try_case(const struct a_case *a_case)
     if (a_case->which == CALL_CHECK) {
         make_received(a_case, &input);
     } else {
-        input.frame_length = clear_frame(a_case->setting.kind, a_case->clear_length, input.frame);
+        input.frame_length = clear_frame(a_case->setting.kind, a_case->setting.has_field, a_case->clear_length, input.frame);
     }
     struct outcome outcome = both_run(&test_random, &input);
     expect(outcome.answer == a_case->answer, a_case->name, "another answer");
@@ -284,6 +308,60 @@ static void try_aos_frame(const struct aos_frame *aos)
         input.frame[6] = 0;
         input.frame[7] = 9;
         expect(both_run(&test_random, &input).answer == (side == 0 ? aos->secured : aos->checked), aos->name, "another answer");
+    }
+    passed++;
+}
+
+/* ---- the check field ---- */
+
+/* The published value: 0x29B1 for the nine octets '1' to '9'. */
+static void try_published_field(void)
+{
+    expect(check_field_of((const uint8_t *)"123456789", 9) == 0x29B1, "field", "the nine digits have another field");
+    passed++;
+}
+
+/* The field of a secured frame is over all before it, the rewritten length and the MAC among them; 12 comes before 4 and after 3. */
+static void try_field_order(void)
+{
+    static struct input input;
+    const struct setting setting = SEND_WITH_FIELD(1, 1, 0);
+    start_input(&input, CALL_SECURE, &setting);
+    input.numbers[0] = 63;
+    input.frame_length = clear_frame(1, true, 20, input.frame);
+    struct outcome outcome = both_run(&test_random, &input);
+    expect(outcome.answer == 0 && check_field_is_right(input.output, outcome.length), "field", "it is not that of the whole secured frame");
+    input.frame[10] ^= 1;
+    input.spi = 8;
+    expect(both_run(&test_random, &input).answer == 12, "field", "12 does not come before 4");
+    input.frame[0] ^= 0x80;
+    expect(both_run(&test_random, &input).answer == 3, "field", "3 does not come before 12");
+    input.frame[0] ^= 0x80;
+    input.check_field = 0;
+    expect(both_run(&test_random, &input).answer == 4, "field", "it is looked at where it is said to be absent");
+    passed += 4;
+}
+
+/* 'A frame with a right field and then one bit changed is shown to be refused by 3 or 12': every bit, of clear and secured frames. */
+static void try_every_bit(enum which_call which, unsigned kind, unsigned service)
+{
+    static struct input input, changed;
+    const struct a_case a_case = {"field: a bit", which, {service, kind, which == CALL_SECURE ? 1 : 2, 100, 0, true}, 63, 20, 64, 0,
+                                  false, 0, 0, 0, 0, 0};
+    start_input(&input, which, &a_case.setting);
+    input.numbers[0] = 63;
+    if (which == CALL_CHECK) {
+        make_received(&a_case, &input);
+    } else {
+        input.frame_length = clear_frame(kind, true, a_case.clear_length, input.frame);
+    }
+    changed = input;
+    expect(both_run(&test_random, &changed).answer == 0, a_case.name, "the frame is refused as it is");
+    for (size_t bit = 0; bit < 8 * input.frame_length; bit++) {
+        changed = input;
+        changed.frame[bit / 8] ^= (uint8_t)(1u << bit % 8);
+        unsigned answer = both_run(&test_random, &changed).answer;
+        expect(answer == 3 || answer == 12, a_case.name, "it is not refused by 3 or 12");
     }
     passed++;
 }
@@ -481,6 +559,14 @@ int main(void)
     }
     for (size_t i = 0; i < sizeof set_frames / sizeof set_frames[0]; i++) {
         try_set_frame(&set_frames[i]);
+    }
+    try_published_field();
+    try_field_order();
+    for (unsigned kind = 1; kind <= 3; kind++) {
+        for (unsigned service = 1; service <= 2; service++) {
+            try_every_bit(CALL_SECURE, kind, service);
+            try_every_bit(CALL_CHECK, kind, service);
+        }
     }
     try_listing("listing of B", &new_image, 0, "spi service kind direction state window next\n9 1 1 1 2 100 64\n");
     try_listing("listing of K", &last_image, 0, "spi service kind direction state window next\n9 1 1 1 2 100 none\n");

@@ -25,8 +25,8 @@ static bool is_cleared;
 
 static void call_secure(void)
 {
-    result = xistalvo_secure(images[0], image_length, numbers[0], NUMBER_COUNT, XISTALVO_TC, SPI, clear, clear_length, secured,
-                             sizeof secured);
+    result = xistalvo_secure(images[0], image_length, numbers[0], NUMBER_COUNT, XISTALVO_TC, XISTALVO_NO_CHECK_FIELD, SPI, clear, clear_length,
+                             secured, sizeof secured);
     if (is_cleared) {
         xistalvo_clear_stack();
     }
@@ -34,8 +34,8 @@ static void call_secure(void)
 
 static void call_check(void)
 {
-    result = xistalvo_check(images[1], image_length, numbers[1], NUMBER_COUNT, XISTALVO_TC, secured, XISTALVO_LENGTH(result), opened,
-                            sizeof opened);
+    result = xistalvo_check(images[1], image_length, numbers[1], NUMBER_COUNT, XISTALVO_TC, XISTALVO_NO_CHECK_FIELD, secured,
+                            XISTALVO_LENGTH(result), opened, sizeof opened);
     if (is_cleared) {
         xistalvo_clear_stack();
     }

@@ -14,7 +14,7 @@
 #include <stdio.h>
 #include <string.h>
 
-enum { CALLS_PER_WORLD = 40, KINDS = 4, SET_ROW = KINDS + 1, ROWS, ANSWERS = 12, ENOUGH_FOR_EVERY_ANSWER = 50000 };
+enum { CALLS_PER_WORLD = 40, KINDS = 4, SET_ROW = KINDS + 1, ROWS, ANSWERS = 13, ENOUGH_FOR_EVERY_ANSWER = 50000 };
 
 struct run {
     struct options options;
@@ -23,6 +23,7 @@ struct run {
     uint64_t raises;
     uint64_t round_trips;
     uint64_t isolations;
+    uint64_t flips; /* frames with a right check field, each of whose bits was changed */
     uint64_t stores[MOST_STORES + 1]; /* checks that were done, by their stores */
     /* call; kind, or 0 for a number that names none, or SET_ROW for a TM association with a set; service, or 0 for an empty image; answer */
     uint64_t tally[3][ROWS][3][ANSWERS];
@@ -68,6 +69,12 @@ static struct target any_target(struct run *run, const struct end *end, unsigned
         }
     }
     return target;
+}
+
+/* Whether frames end in a check field; on AOS, which may not, seldom. Any number but 0 says so. */
+static uint8_t any_field(struct random *random, const struct association *association)
+{
+    return random_percent(random, association->kind == 4 ? 5 : 40) ? (uint8_t)RANDOM_OF(random, 1, 1, 2, 128, 255) : 0;
 }
 
 static void any_output(struct random *random, struct input *input, size_t needed)
@@ -260,6 +267,14 @@ static void splice(struct random *random, struct input *input, const uint8_t *ot
     }
 }
 
+/* A frame that was changed before its field was made: it fails, if at all, behind 12. */
+static void close_again(struct random *random, struct input *input)
+{
+    if (input->check_field != 0 && input->frame_length >= CHECK_FIELD_LENGTH && random_percent(random, 60)) {
+        write_check_field(input->frame, input->frame_length);
+    }
+}
+
 /* Random octets; some begin like a frame of their kind. */
 static void junk(struct random *random, struct input *input)
 {
@@ -296,6 +311,7 @@ static void break_frame(struct random *random, struct input *input, const uint8_
         junk(random, input);
         break;
     }
+    close_again(random, input);
 }
 
 /* What can be wrong beside the frame. */
@@ -311,6 +327,9 @@ static void break_rest(struct random *random, struct input *input)
         input->kind = (uint8_t)random_below(random, 256);
     } else if (random_percent(random, 3)) {
         input->kind = (uint8_t)random_between(random, 1, KINDS);
+    }
+    if (random_percent(random, 3)) {
+        input->check_field = input->check_field != 0 ? 0 : 1;
     }
 }
 
@@ -399,7 +418,7 @@ static void try_round_trip(struct run *run, const struct input *sent, const stru
     struct table table;
     struct header secured;
     table_of(other, &table);
-    bool is_read = read_secured_frame(sent->kind, sent->output, securing->length, &secured);
+    bool is_read = read_secured_frame(sent->kind, sent->check_field != 0, sent->output, securing->length, &secured);
     if (is_read && !serves_channel(&table.entries[target->entry], secured.channel)) {
         return;
     }
@@ -410,9 +429,11 @@ static void try_round_trip(struct run *run, const struct input *sent, const stru
 
     size_t header = target->association.kind == 1 ? 5 : 6;
     size_t trailer = target->association.kind == 3 && (sent->frame[1] & 1) != 0 ? 4 : 0;
+    trailer += sent->check_field != 0 ? CHECK_FIELD_LENGTH : 0;
     size_t data_length = sent->frame_length - header - trailer;
     input_of_end(&input, CALL_CHECK, other);
     input.kind = sent->kind;
+    input.check_field = sent->check_field != 0 ? (uint8_t)random_between(random, 1, 255) : 0;
     input.frame_length = securing->length;
     memcpy(input.frame, sent->output, securing->length);
     any_output(random, &input, data_length);
@@ -433,16 +454,41 @@ static void make_sending(struct random *random, const struct association *associ
 {
     uint8_t other_frame[FRAME_ROOM];
     input->kind = (uint8_t)association->kind;
+    input->check_field = any_field(random, association);
     input->spi = (uint16_t)association->spi;
-    input->frame_length = make_clear_frame(random, association, any_data_length(random, association), input->frame);
+    bool has_field = input->check_field != 0;
+    input->frame_length = make_clear_frame(random, association, has_field, any_data_length(random, association), input->frame);
     if (random_percent(random, 25)) {
-        size_t other_length = make_clear_frame(random, association, any_data_length(random, association), other_frame);
+        size_t other_length = make_clear_frame(random, association, has_field, any_data_length(random, association), other_frame);
         break_frame(random, input, other_frame, other_length);
     }
     if (random_percent(random, 4)) {
         input->spi = (uint16_t)RANDOM_OF(random, 0, 1, 65534, 65535, association->spi + 1, association->spi ^ 0x100);
     }
     any_output(random, input, input->frame_length + security_header_length(association->service) + MAC_LENGTH);
+}
+
+/* 'A frame with a right field and then one bit changed is shown to be refused by 3 or 12', whichever bit it is. */
+static void try_flips(struct run *run, const struct input *input)
+{
+    static struct input changed;
+    struct table table;
+    if (input->check_field == 0 || input->frame_length > 60 || !check_field_is_right(input->frame, input->frame_length)
+        || !read_image(input->image, input->image_length, &table) || !random_percent(&run->random, 1)) {
+        return;
+    }
+    changed = *input;
+    unsigned answer = both_run(&run->random, &changed).answer;
+    for (size_t bit = 0; answer != 2 && bit < 8 * input->frame_length; bit++) {
+        changed = *input;
+        changed.frame[bit / 8] ^= (uint8_t)(1u << bit % 8);
+        answer = both_run(&run->random, &changed).answer;
+        if (answer != 3 && answer != 12) {
+            both_fail("a frame with a right field and then one bit changed was not refused by 3 or 12");
+        }
+        run->inputs++;
+    }
+    run->flips++;
 }
 
 static void try_secure(struct run *run, struct world *world, size_t side)
@@ -462,6 +508,7 @@ static void try_secure(struct run *run, struct world *world, size_t side)
     }
     break_rest(random, &input);
 
+    try_flips(run, &input);
     struct outcome outcome = run_input(run, &input, &target, end);
     /* A broken input may have been secured too, perhaps under another entry; the reading has been compared, and that is all. */
     bool is_targets = outcome.answer == 0 && input.kind == association->kind && input.spi == association->spi
@@ -500,14 +547,14 @@ static void any_sequence(struct random *random, uint32_t last, unsigned window, 
 }
 
 /* A secured frame made by the reading, with any number, and its length; 0 where no such clear frame can be secured. */
-static size_t make_secured_frame(struct run *run, const struct association *association, uint32_t last, uint8_t *secured)
+static size_t make_secured_frame(struct run *run, const struct association *association, bool has_field, uint32_t last, uint8_t *secured)
 {
     uint8_t clear[FRAME_ROOM];
     uint8_t sequence[SEQUENCE_LENGTH];
     struct header header;
-    size_t length = make_clear_frame(&run->random, association, any_data_length(&run->random, association), clear);
+    size_t length = make_clear_frame(&run->random, association, has_field, any_data_length(&run->random, association), clear);
     any_sequence(&run->random, last, association->window, sequence);
-    if (!read_clear_frame(association->kind, clear, length, &header)
+    if (!read_clear_frame(association->kind, has_field, clear, length, &header)
         || length + security_header_length(association->service) + MAC_LENGTH > header.largest) {
         return 0;
     }
@@ -529,13 +576,16 @@ static void try_check(struct run *run, struct end *end)
     }
     input_of_end(&input, CALL_CHECK, end);
     input.kind = (uint8_t)association->kind;
+    input.check_field = association->kind == 4 ? 0 : any_field(random, association);
+    bool has_field = input.check_field != 0;
     uint32_t last = end->numbers[target.entry];
     do {
-        input.frame_length = make_secured_frame(run, association, last, input.frame);
+        input.frame_length = make_secured_frame(run, association, has_field, last, input.frame);
     } while (input.frame_length == 0);
     size_t added = (association->kind == 1 ? 5u : 6u) + security_header_length(association->service) + MAC_LENGTH;
+    added += has_field ? CHECK_FIELD_LENGTH : 0;
     if (random_percent(random, 30)) {
-        size_t other_length = make_secured_frame(run, association, last, other_frame);
+        size_t other_length = make_secured_frame(run, association, has_field, last, other_frame);
         break_frame(random, &input, other_frame, other_length);
     }
     if (association->kind == 3 && input.frame_length > 1) {
@@ -543,6 +593,7 @@ static void try_check(struct run *run, struct end *end)
     }
     any_output(random, &input, input.frame_length > added ? input.frame_length - added : 1);
     break_rest(random, &input);
+    try_flips(run, &input);
     run_input(run, &input, &target, end);
 }
 
@@ -611,24 +662,25 @@ static void print_row(const char *call, const char *kind, const char *service, c
     putchar('\n');
 }
 
-static bool can_be_reached(unsigned which, unsigned answer)
+static bool can_be_reached(unsigned which, unsigned kind, unsigned answer)
 {
+    bool may_end_in_field = kind != 4;
     switch (which) {
     case CALL_LOAD:
         return answer <= 2;
     case CALL_SECURE:
-        return answer <= 4 || answer == 6 || answer == 10 || answer == 11;
+        return answer <= 4 || answer == 6 || answer == 10 || answer == 11 || (answer == 12 && may_end_in_field);
     default:
-        return answer <= 8;
+        return answer <= 8 || (answer == 12 && may_end_in_field);
     }
 }
 
 /* The answers that a row lacks or must not have. */
-static unsigned faults_of_row(unsigned which, const uint64_t answers[ANSWERS])
+static unsigned faults_of_row(unsigned which, unsigned kind, const uint64_t answers[ANSWERS])
 {
     unsigned faults = 0;
     for (unsigned answer = 0; answer < ANSWERS; answer++) {
-        faults += (answers[answer] != 0) != can_be_reached(which, answer);
+        faults += (answers[answer] != 0) != can_be_reached(which, kind, answer);
     }
     return faults;
 }
@@ -648,7 +700,7 @@ static unsigned print_tally(const struct run *run)
             for (unsigned service = 0; service < 3; service++) {
                 bool is_whole = kind != 0 && service != 0;
                 print_row(calls[which], names[kind], names[service], run->tally[which][kind][service]);
-                faults += is_whole ? faults_of_row(which, run->tally[which][kind][service]) : 0;
+                faults += is_whole ? faults_of_row(which, kind, run->tally[which][kind][service]) : 0;
             }
         }
     }
@@ -672,8 +724,8 @@ int main(int argument_count, char **arguments)
     }
     unsigned faults = print_tally(&run);
     printf("differential: seed %" PRIu64 ", %" PRIu64 " inputs in %" PRIu64 " worlds, of them %" PRIu64 " cuts and %" PRIu64
-           " with every other association changed; %" PRIu64 " round trips; no difference\n",
-           run.options.seed, run.inputs, world - run.options.from, run.raises, run.isolations, run.round_trips);
+           " with every other association changed; %" PRIu64 " round trips, %" PRIu64 " frames changed in each bit; no difference\n",
+           run.options.seed, run.inputs, world - run.options.from, run.raises, run.isolations, run.round_trips, run.flips);
     if (faults != 0 && run.options.count >= ENOUGH_FOR_EVERY_ANSWER) {
         printf("differential: %u of the counts above are 0 and should not be, or the other way round\n", faults);
         return 1;

@@ -170,8 +170,8 @@ static void send_frames(struct link *link, int pipe_end)
     start(link, 0, &kept);
     for (unsigned i = 0; i < MOST_FRAMES; i++) {
         random_octets(&watch.random, clear + 5, DATA_LENGTH);
-        uint64_t result = xistalvo_secure(lent(link, 0, &kept), LENGTH, kept.numbers, XISTALVO_NUMBERS, XISTALVO_TC, SPI, clear,
-                                          sizeof clear, output, sizeof output);
+        uint64_t result = xistalvo_secure(lent(link, 0, &kept), LENGTH, kept.numbers, XISTALVO_NUMBERS, XISTALVO_TC,
+                                          XISTALVO_NO_CHECK_FIELD, SPI, clear, sizeof clear, output, sizeof output);
         if (XISTALVO_ANSWER(result) == XISTALVO_DONE && keep(link, 0, &kept)) {
             tell(pipe_end, output, sizeof output);
         }
@@ -190,8 +190,8 @@ static void check_frames(struct link *link, int pipe_end)
             i -= 5;
         }
         memcpy(&released, &link->sent[i], sizeof released);
-        uint64_t result = xistalvo_check(lent(link, 1, &kept), LENGTH, kept.numbers, XISTALVO_NUMBERS, XISTALVO_TC, link->sent[i].octets,
-                                         FRAME_LENGTH, released.octets + 11, DATA_LENGTH);
+        uint64_t result = xistalvo_check(lent(link, 1, &kept), LENGTH, kept.numbers, XISTALVO_NUMBERS, XISTALVO_TC,
+                                         XISTALVO_NO_CHECK_FIELD, link->sent[i].octets, FRAME_LENGTH, released.octets + 11, DATA_LENGTH);
         if (XISTALVO_ANSWER(result) == XISTALVO_DONE && keep(link, 1, &kept)) {
             tell(pipe_end, &released, sizeof released);
         }

@@ -138,8 +138,8 @@ static void run_call(void)
 {
     frame_of_caller = __builtin_frame_address(0);
     __asm__ volatile("int3");
-    result = xistalvo_check(image, image_length, numbers, NUMBER_COUNT, (uint8_t)association.kind, frame, frame_length, output,
-                            output_length);
+    result = xistalvo_check(image, image_length, numbers, NUMBER_COUNT, (uint8_t)association.kind, XISTALVO_NO_CHECK_FIELD, frame,
+                            frame_length, output, output_length);
     __asm__ volatile("int3");
 }
 
@@ -184,7 +184,7 @@ static void make_input(unsigned kind, size_t data_length, uint64_t number)
     if (has_length_field(kind)) {
         write_tc_length(clear, clear_length);
     }
-    if (!read_clear_frame(kind, clear, clear_length, &header)) {
+    if (!read_clear_frame(kind, false, clear, clear_length, &header)) {
         fputs("keystream: a clear frame does not obey its kind\n", stderr);
         exit(1);
     }

@@ -122,6 +122,12 @@ static uint32_t number_in(const uint8_t *frame, const struct association *associ
     return (uint32_t)frame[end - 4] << 24 | (uint32_t)frame[end - 3] << 16 | (uint32_t)frame[end - 2] << 8 | frame[end - 1];
 }
 
+/* Every second association but AOS has a check field in its frames. */
+static bool ends_in_field(const struct association *association)
+{
+    return association->kind != 4 && association->spi % 2 == 0;
+}
+
 /* Prepares a sending of one to twenty octets of data. */
 static void prepare_sending(struct run *run, size_t side, size_t entry, struct association *association)
 {
@@ -130,7 +136,9 @@ static void prepare_sending(struct run *run, size_t side, size_t entry, struct a
     input_of_end(input, CALL_SECURE, &run->world.ends[side]);
     input->kind = (uint8_t)association->kind;
     input->spi = (uint16_t)association->spi;
-    input->frame_length = make_clear_frame(&run->random, association, random_between(&run->random, 1, 20), input->frame);
+    input->check_field = ends_in_field(association) ? 1 : 0;
+    input->frame_length = make_clear_frame(&run->random, association, input->check_field != 0, random_between(&run->random, 1, 20),
+                                           input->frame);
     input->output_length = SMALL_FRAME;
 }
 
@@ -138,7 +146,7 @@ static void prepare_sending(struct run *run, size_t side, size_t entry, struct a
 static unsigned channel_in(const uint8_t *frame, size_t length, const struct association *association)
 {
     struct header header;
-    if (!read_secured_frame(association->kind, frame, length, &header)) {
+    if (!read_secured_frame(association->kind, ends_in_field(association), frame, length, &header)) {
         both_fail("a frame that went out does not obey its kind");
     }
     return header.channel;
@@ -149,6 +157,7 @@ static void keep_frame(struct run *run, struct history *history, const struct as
     struct sent_frame *kept = &history->frames[history->frame_count++ % FRAMES_KEPT];
     size_t header = association->kind == 1 ? 5 : 6;
     size_t trailer = association->kind == 3 && (run->input.frame[1] & 1) != 0 ? 4 : 0;
+    trailer += ends_in_field(association) ? CHECK_FIELD_LENGTH : 0;
     kept->length = length;
     memcpy(kept->frame, run->input.output, length);
     kept->number = number_in(kept->frame, association);
@@ -186,6 +195,7 @@ static const struct sent_frame *prepare_check(struct run *run, size_t side, size
     association_of(run, side, entry, association);
     input_of_end(input, CALL_CHECK, &run->world.ends[side]);
     input->kind = (uint8_t)association->kind;
+    input->check_field = ends_in_field(association) ? 1 : 0;
     input->frame_length = frame->length;
     memcpy(input->frame, frame->frame, frame->length);
     run->is_tampered = random_percent(&run->random, 5);

@@ -20,20 +20,21 @@ static ucontext_t here, there;
 static uint8_t images[2][LARGEST_IMAGE], clear[LARGEST_FRAME], secured[LARGEST_FRAME], opened[LARGEST_FRAME];
 static uint32_t numbers[2][NUMBER_COUNT];
 static size_t image_length, clear_length, secured_length;
-static uint8_t kind;
+static uint8_t kind, check_field;
 static uint64_t result;
 
 static void call_load(void) { result = xistalvo_load(images[0], image_length, numbers[0], NUMBER_COUNT); }
 
 static void call_secure(void)
 {
-    result = xistalvo_secure(images[0], image_length, numbers[0], NUMBER_COUNT, kind, MOST_ENTRIES, clear, clear_length, secured,
-                             sizeof secured);
+    result = xistalvo_secure(images[0], image_length, numbers[0], NUMBER_COUNT, kind, check_field, MOST_ENTRIES, clear, clear_length,
+                             secured, sizeof secured);
 }
 
 static void call_check(void)
 {
-    result = xistalvo_check(images[1], image_length, numbers[1], NUMBER_COUNT, kind, secured, secured_length, opened, sizeof opened);
+    result = xistalvo_check(images[1], image_length, numbers[1], NUMBER_COUNT, kind, check_field, secured, secured_length, opened,
+                            sizeof opened);
 }
 
 static void call_raise(void)
@@ -93,7 +94,7 @@ static void make_ends(unsigned service)
     }
 }
 
-/* The largest clear frame that can be secured. A TM frame has an operational control field. */
+/* The largest clear frame that can be secured. A TM frame has an operational control field, and all but AOS end in a check field. */
 static void make_frame(unsigned service)
 {
     static const uint8_t headers[4][6] = {{0x00, 0x1B, 0x14}, {0x00, 0x1B, 0x14}, {0x01, 0xBB}, {0x46, 0xC5}};
@@ -102,6 +103,9 @@ static void make_frame(unsigned service)
     memcpy(clear, headers[kind - 1], 6);
     if (has_length_field(kind)) {
         write_tc_length(clear, clear_length);
+    }
+    if (check_field != 0) {
+        write_check_field(clear, clear_length);
     }
 }
 
@@ -113,6 +117,7 @@ static size_t taken_by(void (*call)(void), unsigned service)
     static const int patterns[] = {0x5A, 0xA5};
     size_t most = 0;
     for (kind = 1; kind <= 4; kind++) {
+        check_field = kind != 4;
         for (size_t i = 0; i < sizeof patterns / sizeof patterns[0]; i++) {
             make_ends(service);
             make_frame(service);

@@ -186,11 +186,11 @@ static void call_watched(struct input *input)
     guarded_lend(&image_area, input->image, input->image_length, LEND_AT_END, LEND_READ_ONLY);
     guarded_lend(&output_area, input->output, input->output_length, LEND_AT_END, LEND_READ_ONLY);
     if (input->which == CALL_SECURE) {
-        xistalvo_secure(image_area.range, input->image_length, input->numbers, NUMBER_COUNT, input->kind, input->spi, input->frame,
-                        input->frame_length, output_area.range, input->output_length);
+        xistalvo_secure(image_area.range, input->image_length, input->numbers, NUMBER_COUNT, input->kind, input->check_field,
+                        input->spi, input->frame, input->frame_length, output_area.range, input->output_length);
     } else {
-        xistalvo_check(image_area.range, input->image_length, input->numbers, NUMBER_COUNT, input->kind, input->frame,
-                       input->frame_length, output_area.range, input->output_length);
+        xistalvo_check(image_area.range, input->image_length, input->numbers, NUMBER_COUNT, input->kind, input->check_field,
+                       input->frame, input->frame_length, output_area.range, input->output_length);
     }
     guarded_take_back(&image_area);
     guarded_take_back(&output_area);
@@ -238,8 +238,8 @@ static void judge(const struct input *before, const struct effect *effect, struc
 
 static void read_document(const struct input *input, struct effect *effect)
 {
-    struct call call = {input->image, input->image_length, input->numbers, input->numbers_length, input->kind, input->spi,
-                        input->frame, input->frame_length, input->output_length};
+    struct call call = {input->image, input->image_length, input->numbers, input->numbers_length, input->kind,
+                        input->check_field != 0, input->spi, input->frame, input->frame_length, input->output_length};
     if (input->which == CALL_SECURE) {
         reading_secure(&call, effect);
     } else {
@@ -260,8 +260,10 @@ static void make_input(struct random *random, const struct end *end, struct inpu
     input->kind = (uint8_t)association->kind;
     input->spi = (uint16_t)association->spi;
     input->output_length = 2 * DATA_MOST;
-    input->frame_length = make_clear_frame(random, association, random_between(random, 1, DATA_MOST), input->frame);
-    if (input->which == CALL_CHECK && read_clear_frame(association->kind, input->frame, input->frame_length, &header)) {
+    bool has_field = association->kind != 4 && random_percent(random, 30);
+    input->check_field = has_field ? 1 : 0;
+    input->frame_length = make_clear_frame(random, association, has_field, random_between(random, 1, DATA_MOST), input->frame);
+    if (input->which == CALL_CHECK && read_clear_frame(association->kind, has_field, input->frame, input->frame_length, &header)) {
         memcpy(clear, input->frame, input->frame_length);
         sequence_of_number((uint64_t)end->numbers[entry] + random_between(random, 1, association->window + 1), sequence);
         input->frame_length = protect_frame(association, &header, sequence, clear, input->frame_length, input->frame);

@@ -1,12 +1,15 @@
 #!/usr/bin/env python3
 """Makes crates/frame_cases/stdin, the frames, and crates/frame_cases/stdout, the answers expected on them.
 
-The answers are read off document 01 ('Frames', 'The image', 'What comes back') and document 02 (request 1) here, over strings of bits, and not off the code:
+The answers are read off document 01 ('Frames', 'The image', 'What comes back') and document 02 (requests 1 and 4) here, over strings of bits, and not off
+the code:
 
   python3 tools/frame_cases.py
 """
 import argparse
 import os
+
+from check_field import check_field
 
 TC_FIELDS = [("version", 2), ("bypass", 1), ("control", 1), ("spare", 2), ("spacecraft", 10), ("channel", 6), ("length", 10), ("sequence", 8)]
 SEGMENT_FIELDS = [("flags", 2), ("map", 6)]
@@ -42,11 +45,19 @@ def version(kind):
     return 1 if kind == 4 else 0
 
 
-def obeys(kind, frame, secured):
-    if kind not in KINDS:
+def trailer(kind, field, frame):
+    return (4 if kind == 3 and unpack(kind, frame)["ocf"] else 0) + (2 if field else 0)
+
+
+def right_field(field, frame):
+    return not field or (len(frame) >= 2 and frame[-2:] == check_field(frame[:-2]))
+
+
+def obeys(kind, field, frame, secured):
+    if kind not in KINDS or (kind == 4 and field):
         return False
     v, h = unpack(kind, frame), width(kind) // 8
-    f = 4 if kind == 3 and v["ocf"] else 0
+    f = trailer(kind, field, frame)
     if len(frame) < h + (2 if secured else 1) + f or len(frame) > KINDS[kind]["largest"] or v["version"] != version(kind):
         return False
     if kind == 4:
@@ -70,16 +81,16 @@ def rewritten(kind, frame, n):
     return bytes(int(bits[i : i + 8], 2) for i in range(0, 32, 8)) + frame[4:]
 
 
-def line(number, secured, security, mask, frame):
-    out = [number, int(obeys(number, frame, secured))]
+def line(number, secured, field, security, mask, frame):
+    out = [number, int(obeys(number, field, frame, secured))]
     if number in KINDS:
         kind, n, v, h = KINDS[number], len(frame), unpack(number, frame), width(number) // 8
-        f = 4 if number == 3 and v["ocf"] else 0
-        out += [h, f, kind["largest"], v["spacecraft"], v["channel"], v.get("map", 0)]
+        f = trailer(number, field, frame)
+        out += [h, kind["largest"], v["spacecraft"], v["channel"], v.get("map", 0)]
         out += kind["most"]
         end = max(n - f, 0)
-        out += [h, end, h, h + security, max(end - 16, 0), end, n + security + 16]
-        out += [int(n + security + 16 > kind["largest"]), int(n < h + security + 1 + 16 + f)]
+        out += [f, h, end, max(n - 2 * field, 0), h, h + security, max(end - 16, 0), end, n + security + 16]
+        out += [int(n + security + 16 > kind["largest"]), int(n < h + security + 1 + 16 + f), int(right_field(field, frame))]
         header = bytes(x & m for x, m in zip(frame[:h], mask)) + frame[:h][len(mask) :]
         out += [len(header), *(header + bytes([165] * 8))[: max(8, len(header))]]
         out += [int(holds_length(number, frame)), *(rewritten(number, frame, n + security + 16) + bytes(8))[:8]]
@@ -92,12 +103,21 @@ def main():
     def add(number, header, n, security=6, mask=b"\xff" * 6):
         frame = (header + bytes(n))[:n] if n < len(header) else header + bytes(n - len(header))
         for secured in (0, 1):
-            cases.append((number, secured, security, mask, frame))
+            cases.append((number, secured, 0, security, mask, frame))
+        # a check field that is right, and one that is wrong in one bit
+        if n >= len(header) + 2:
+            right = frame[:-2] + check_field(frame[:-2])
+            flip = n % 16
+            wrong = right[:-2] + bytes([right[-2] ^ (1 << flip >> 8), right[-1] ^ (1 << flip & 255)])
+            cases.append((number, n % 2, 1, security, mask, right))
+            cases.append((number, n % 2, 1, security, mask, wrong))
+        else:
+            cases.append((number, n % 2, 1, security, mask, frame))
 
     masks = [b"\xff" * 6, bytes(6), b"\x0f\xf0\xaa\x55\x33\xcc", b"\x03\xff\xfc", b""]
     for number in KINDS:
         fields, largest, h = KINDS[number]["fields"], KINDS[number]["largest"], width(number) // 8
-        sizes = set(range(0, h + 12)) | set(range(h + 19, h + 38)) | {largest + d for d in (-31, -30, -29, -23, -22, -21, -1, 0, 1)} | {256, 257, 512, 768}
+        sizes = set(range(0, h + 14)) | set(range(h + 19, h + 38)) | {largest + d for d in (-31, -30, -29, -23, -22, -21, -1, 0, 1)} | {256, 257, 512, 768}
         for ocf in (0, 1) if number == 3 else (0,):
             for n in sorted(sizes):
                 for wrong in (0, 1, 1023) if number < 3 else (0,):
@@ -121,11 +141,11 @@ def main():
 
     here = os.path.join(os.path.dirname(os.path.abspath(__file__)), "..", "crates", "frame_cases")
     with open(os.path.join(here, "stdin"), "w") as stdin, open(os.path.join(here, "stdout"), "w") as stdout:
-        for number, secured, security, mask, frame in cases:
-            front = (frame + bytes(6))[:6]
-            octets = bytes([number, secured, security, len(mask)]) + len(frame).to_bytes(2, "big") + front + (mask + bytes(6))[:6]
-            stdin.write(octets.hex() + "\n")
-            stdout.write(line(number, secured, security, mask, frame) + "\n")
+        for number, secured, field, security, mask, frame in cases:
+            front, last = (frame + bytes(6))[:6], (bytes(2) + frame)[-2:]
+            said = bytes([number, secured, field, security, len(mask)])
+            stdin.write((said + len(frame).to_bytes(2, "big") + front + last + (mask + bytes(6))[:6]).hex() + "\n")
+            stdout.write(line(number, secured, field, security, mask, frame) + "\n")
 
 
 argparse.ArgumentParser(description=__doc__, formatter_class=argparse.RawDescriptionHelpFormatter).parse_args()

@@ -25,7 +25,7 @@ LENGTH = "#fcd9ad"  # lengths, positions, counts
 NUMBER = "#fff0a8"  # SPI, sequence number, window, mark, stores
 DATA = "#d3ecd0"  # data
 MAC = "#f7cdc9"  # MAC and key
-TRAILER = "#dfd3ee"  # OCF
+TRAILER = "#dfd3ee"  # OCF and check field
 INK = "#1a1a1a"
 SOFT = "#595959"
 
@@ -293,6 +293,34 @@ def secured(service):
     return p
 
 
+def check_field():
+    p = Picture("check-field", "Frames that end in a check field: TC, and TM with OCF or without")
+    heading(p, p.title, "The field has 2 octets, so f is 2, and 6 with OCF. The TC length field counts it. Widths are not to scale.")
+    head, spi, number, data, mac, ocf, field = 104, 66, 100, 216, 100, 124, 154
+    parts = [
+        ("header", head, NAMES, ["header", "h octets"], ""),
+        ("data", data, DATA, ["data", "n octets"], ""),
+        ("ocf", ocf, TRAILER, ["OCF, if any", "4 octets"], ""),
+        ("field", field, TRAILER, ["check field", "2 octets"], ""),
+    ]
+    ends = parts_row(p, 96, parts, "clear", "")
+    p.bracket(ends["header"][0], ends["ocf"][1], 156, ["the field is tested over all of this: answer 12"], SOFT)
+    parts = [
+        ("header", head, NAMES, ["header", "h octets"], ""),
+        ("spi", spi, NUMBER, ["SPI", "2 octets"], ""),
+        ("number", number, NUMBER, ["number", "4 or 12"], ""),
+        ("data", data, DATA, ["data", "n octets"], ""),
+        ("mac", mac, MAC, ["MAC", "16 octets"], ""),
+        ("ocf", ocf, TRAILER, ["OCF, copied", "4 octets"], ""),
+        ("field", field, TRAILER, ["check field, made", "2 octets"], ""),
+    ]
+    ends = parts_row(p, 220, parts, "secured", "")
+    p.bracket(ends["header"][0], ends["data"][1], 280, ["the MAC covers all of this, the header masked"], "#8a1c12")
+    p.bracket(ends["header"][0], ends["ocf"][1], 328, ["the field is made last, of all of this: the rewritten length and the MAC are in it"], SOFT)
+    p.note(p.bottom + 26, "x^16 + x^12 + x^5 + 1, register preset to all ones, first bit first, nothing inverted at the end; the high octet stands first.")
+    return p
+
+
 # ---- the image
 
 
@@ -403,7 +431,7 @@ def packed_result():
     bit = FULL / 64
     fields = [
         ("0", 63, 48, FIXED, []),
-        ("answer", 47, 40, SORT, ["0 to 11"]),
+        ("answer", 47, 40, SORT, ["0 to 12"]),
         ("stores", 39, 32, NUMBER, ["0 to 16"]),
         ("length", 31, 0, LENGTH, ["octets of the result"]),
     ]
@@ -465,10 +493,11 @@ def layers():
         "cmac": (24, 4, 112, MAC, "CMAC"),
         "gctr": (145, 4, 98, MAC, "counter mode"),
         "gcm": (145, 5, 199, MAC, "GCM: seal, open"),
-        "headers": (372, 1, 130, NAMES, "TC and TM fields"),
+        "headers": (372, 1, 116, NAMES, "header fields"),
+        "check_field": (496, 1, 102, NAMES, "the CRC"),
         "kinds": (372, 2, 180, NAMES, "a kind as a record"),
         "frame": (372, 3, 130, NAMES, "parts, rules, mask"),
-        "marks": (566, 1, 144, NUMBER, "plans of stores"),
+        "marks": (606, 1, 104, NUMBER, "octet stores"),
         "bodies": (522, 3, 188, NUMBER, "layouts, fields, rules"),
         "image": (522, 4, 188, NUMBER, "contents, the whole rule"),
         "association": (522, 5, 188, NUMBER, "numbers, search, entries"),
@@ -496,11 +525,11 @@ def layers():
         ("bodies", "marks", 638), ("frame", "kinds", 437), ("kinds", "headers", 437), ("gcm", "gctr", 194), ("gcm", "ghash", 298),
         ("gctr", "cipher", 170), ("gctr", "block", 219), ("ghash", "block", 298), ("cmac", "cipher", 80), ("cipher", "key_schedule", 80),
         ("key_schedule", "substitution", 80), ("substitution", "octets", 80), ("block", "octets", 244), ("headers", "octets", 437),
-        ("marks", "octets", 638),
+        ("marks", "octets", 638), ("check_field", "octets", 546),
     ]
     needed = stands_on()
     assert set(needed) == set(boxes) | set(programs), "crates.txt has other crates"
-    drawn = arrows + [("services", "association", 320)]
+    drawn = arrows + [("services", "association", 320), ("frame", "check_field", 490)]
     for name in boxes:
         assert needed[name] <= everything_below(name, drawn), f"an arrow is missing: {name}"
         direct = {below for above, below, _ in drawn if above == name}
@@ -517,6 +546,8 @@ def layers():
         p.arrow([(x, top(boxes[above][1]) + high), (x, top(boxes[below][1]) - 1)])
     bend = top(boxes["services"][1]) + high + 12
     p.arrow([(320, bend - 12), (320, bend), (616, bend), (616, top(boxes["association"][1]) - 1)])
+    bend = top(boxes["frame"][1]) + high + 12
+    p.arrow([(490, bend - 12), (490, bend), (574, bend), (574, top(boxes["check_field"][1]) - 1)])
     lab = "Dashed frame: with octets, what goes to the partner lab by itself. Nothing in it names a frame."
     p.text(24, top(0) + high + 24, lab, 12.5, "start", colour="#8a1c12")
     p.text(744, 58, "Aside: programs", 13, "start", "bold")
@@ -527,7 +558,8 @@ def layers():
     return p
 
 
-PICTURES = [tc_header, tc_segment_header, tm_header, aos_header, lambda: secured(1), lambda: secured(2), image, body, packed_result, layers]
+PICTURES = [tc_header, tc_segment_header, tm_header, aos_header, lambda: secured(1), lambda: secured(2), check_field, image, body]
+PICTURES += [packed_result, layers]
 
 
 def main(checking):

@@ -1,7 +1,7 @@
 #!/usr/bin/env python3
 """Makes crates/link_cases/stdin, calls of the module, and crates/link_cases/stdout, what is expected to come back and to change.
 
-All of it is read off document 01, and requests 1 and 2 of document 02, here, over whole numbers and strings of octets, and not off the code;
+All of it is read off document 01, and requests 1, 2 and 4 of document 02, here, over whole numbers and strings of octets, and not off the code;
 AES is OpenSSL's. Each call below states the answer that the paper gives it, and the reading is held to that as well:
 
   python3 tools/link_cases.py        (needs the Python package `cryptography`)
@@ -11,6 +11,7 @@ import os
 import random
 from dataclasses import dataclass, replace
 
+from check_field import check_field
 from cryptography.hazmat.primitives.ciphers.aead import AESGCM
 from cryptography.hazmat.primitives.ciphers.algorithms import AES
 from cryptography.hazmat.primitives.cmac import CMAC
@@ -149,6 +150,15 @@ def aos(data, count=0, signalling=0, spacecraft=27, channel=5, version=1):
     return packed((version, 2), (spacecraft, 8), (channel, 6), (count, 24), (signalling, 8)) + data
 
 
+def closed(frame):
+    """A frame with a check field in the place of its last two octets, which its length counts already."""
+    return frame[:-2] + check_field(frame[:-2])
+
+
+def is_closed(frame):
+    return frame[-2:] == check_field(frame[:-2])
+
+
 def clear(kind, data, ocf=b"", **fields):
     if kind == 3:
         return tm(data, ocf, **fields)
@@ -157,15 +167,15 @@ def clear(kind, data, ocf=b"", **fields):
     return tc(HEADER[kind] + len(data), data, segment=(3, 9) if kind == 2 else None, **fields)
 
 
-def trailer(kind, frame):
-    return 4 if kind == 3 and bits(frame, 15, 1) else 0
+def trailer(kind, frame, field):
+    return (4 if kind == 3 and bits(frame, 15, 1) else 0) + (2 if field else 0)
 
 
-def is_frame(kind, frame, least):
+def is_frame(kind, frame, least, field):
     """Whether the frame keeps its kind's header rules, length field and size: with at least so many octets behind its header."""
-    if kind not in HEADER or not HEADER[kind] <= len(frame) <= LARGEST[kind]:
+    if kind not in HEADER or not HEADER[kind] <= len(frame) <= LARGEST[kind] or (kind == 4 and field):
         return False
-    if len(frame) < HEADER[kind] + least + trailer(kind, frame):
+    if len(frame) < HEADER[kind] + least + trailer(kind, frame, field):
         return False
     if bits(frame, 0, 2) != (1 if kind == 4 else 0):
         return False
@@ -222,10 +232,10 @@ SLIPS = [
 ]
 
 
-def secured_frame(e, kind, frame, n, slip=None):
+def secured_frame(e, kind, frame, n, slip=None, field=False):
     """The secured frame of a clear one. A slip makes its MAC as the paper does not."""
-    h, f = HEADER[kind], trailer(kind, frame)
-    header, data, ocf = frame[:h], frame[h : len(frame) - f], frame[len(frame) - f :]
+    h, f = HEADER[kind], trailer(kind, frame, field)
+    header, data, ocf = frame[:h], frame[h : len(frame) - f], frame[len(frame) - f : len(frame) - 2 * field]
     size = len(frame) + SECURITY[e.service] + 16
     sent = header if kind in (3, 4) else header[:2] + packed((bits(header, 16, 6), 6), (size - 1, 10)) + header[4:]
     iv = n.to_bytes(SECURITY[e.service] - 2, "big")
@@ -246,12 +256,13 @@ def secured_frame(e, kind, frame, n, slip=None):
         mac = protected(e, iv, masked(sent, e.mask), data)[1]
     elif slip == "another key":
         mac = protected(replace(e, key=e.key[::-1]), iv, before, data)[1]
-    return sent + security + out + mac + ocf
+    front = sent + security + out + mac + ocf
+    return front + check_field(front) if field else front
 
 
-def opened(e, kind, frame):
+def opened(e, kind, frame, field=False):
     """The number in a secured frame, whether its MAC is right, and its clear data."""
-    h, end = HEADER[kind], len(frame) - trailer(kind, frame)
+    h, end = HEADER[kind], len(frame) - trailer(kind, frame, field)
     at = h + SECURITY[e.service]
     security, out, mac = frame[h:at], frame[at : end - 16], frame[end - 16 : end]
     before = masked(frame[:h], e.mask) + security
@@ -274,14 +285,16 @@ def disagrees(entries, numbers):
     return any(numbers[i] // 64 != e.mark for i, e in enumerate(entries))
 
 
-def securing(image, numbers, kind, spi, frame, room):
+def securing(image, numbers, kind, field, spi, frame, room):
     entries = read_image(image)
     if entries is None:
         return 1
     if disagrees(entries, numbers):
         return 2
-    if not is_frame(kind, frame, 1):
+    if not is_frame(kind, frame, 1, field):
         return 3
+    if field and not is_closed(frame):
+        return 12
     i = matching(entries, spi, 1, kind, frame)
     if i is None:
         return 4
@@ -292,27 +305,29 @@ def securing(image, numbers, kind, spi, frame, room):
         return 6
     if numbers[i] == MOST:
         return 10
-    return Done(secured_frame(entries[i], kind, frame, numbers[i] + 1), i, numbers[i] + 1)
+    return Done(secured_frame(entries[i], kind, frame, numbers[i] + 1, field=field), i, numbers[i] + 1)
 
 
-def checking(image, numbers, kind, frame, room):
+def checking(image, numbers, kind, field, frame, room):
     entries = read_image(image)
     if entries is None:
         return 1
     if disagrees(entries, numbers):
         return 2
-    if not is_frame(kind, frame, 2):
+    if not is_frame(kind, frame, 2, field):
         return 3
+    if field and not is_closed(frame):
+        return 12
     h = HEADER[kind]
     i = matching(entries, int.from_bytes(frame[h : h + 2], "big"), 2, kind, frame)
     if i is None:
         return 4
-    rest = len(frame) - h - SECURITY[entries[i].service] - 16 - trailer(kind, frame)
+    rest = len(frame) - h - SECURITY[entries[i].service] - 16 - trailer(kind, frame, field)
     if rest < 1:
         return 5
     if room < rest:
         return 6
-    n, is_right, data = opened(entries[i], kind, frame)
+    n, is_right, data = opened(entries[i], kind, frame, field)
     if not is_right:
         return 7
     if not numbers[i] < n <= min(numbers[i] + entries[i].window, MOST):
@@ -382,15 +397,15 @@ class Module:
         self.image(image_of(replace(entry, mark=last // 64)))
         self.number(0, last)
 
-    def secure(self, kind, spi, frame, answer, room=None, stores=None):
+    def secure(self, kind, spi, frame, answer, room=None, stores=None, field=False):
         room = len(frame) + 40 if room is None else room
-        self.lines.append("secure %02x %04x %04x %s" % (kind, spi, room, frame.hex()))
-        return self.came(securing(self.octets, self.numbers, kind, spi, frame, room), answer, stores)
+        self.lines.append("secure %02x %02x %04x %04x %s" % (kind, field, spi, room, frame.hex()))
+        return self.came(securing(self.octets, self.numbers, kind, field, spi, frame, room), answer, stores)
 
-    def check(self, kind, frame, answer, room=None, stores=None):
+    def check(self, kind, frame, answer, room=None, stores=None, field=False):
         room = len(frame) if room is None else room
-        self.lines.append("check %02x %04x %s" % (kind, room, frame.hex()))
-        return self.came(checking(self.octets, self.numbers, kind, frame, room), answer, stores)
+        self.lines.append("check %02x %02x %04x %s" % (kind, field, room, frame.hex()))
+        return self.came(checking(self.octets, self.numbers, kind, field, frame, room), answer, stores)
 
     def cut(self, entry, n, j, stores):
         """A call that raises the mark of the entry to that of n, cut after its first j stores."""
@@ -779,6 +794,79 @@ def channel_sets(run):
     assert run.numbers[:2] == [last[0] + 1, last[1] + 2]
 
 
+def with_field(kind, data, ocf=b"", **fields):
+    """A clear frame with a right check field, behind the OCF."""
+    return closed(tm(data, ocf, **fields) + bytes(2)) if kind == 3 else closed(clear(kind, data + bytes(2), **fields))
+
+
+def check_fields(run):
+    """Document 02, request 4."""
+    assert check_field(b"123456789") == bytes.fromhex("29b1")
+    for name, service, most in (("L", 1, 1002), ("M", 2, 994)):
+        run.case("%s with a check field: a TC frame of %d octets, the field counted in, becomes one of 1,024, and a longer one none" % (name, most))
+        run.fresh(replace(B, service=service))
+        run.secure(1, 9, closed(sized(most + 1)), 11, field=True)
+        assert len(run.secure(1, 9, closed(sized(most)), 0, field=True)) == 1024
+    for kind, ocf in ((1, b""), (2, b""), (3, b""), (3, b"ocf.")):
+        for service in (1, 2):
+            here = Entry(9, service, kind, 1, map=9 if kind == 2 else 0, mask=MASKS[kind])
+            run.case("kind %d%s, service %d: a check field at both ends" % (kind, " with OCF" if ocf else "", service))
+            frame = with_field(kind, b"data", ocf)
+            run.fresh(here)
+            sent = run.secure(kind, 9, frame, 0, field=True)
+            assert is_closed(sent) and len(sent) == len(frame) + SECURITY[service] + 16
+            assert ocf == sent[len(sent) - 2 - len(ocf) : len(sent) - 2]
+            run.secure(kind, 9, with_field(kind, b"", ocf), 3, field=True)
+            run.fresh(replace(here, direction=2))
+            assert run.check(kind, sent, 0, field=True) == b"data"
+            run.check(kind, sent, 8, field=True)
+            run.case("the same with any one bit changed: 3 or 12, whatever the SPI and the output")
+            for at in range(8 * len(frame)):
+                changed = (int.from_bytes(frame, "big") ^ 1 << at).to_bytes(len(frame), "big")
+                answer = securing(run.octets, run.numbers, kind, True, 8, changed, 0)
+                assert answer in (3, 12)
+                run.secure(kind, 8, changed, answer, room=0, field=True)
+            for at in range(8 * len(sent)):
+                changed = (int.from_bytes(sent, "big") ^ 1 << at).to_bytes(len(sent), "big")
+                answer = checking(run.octets, run.numbers, kind, True, changed, 0)
+                assert answer in (3, 12)
+                run.check(kind, changed, answer, room=0, field=True)
+    run.case("AOS: a check field gives 3, right or wrong")
+    run.fresh(CAMERAS)
+    for frame in (aos(b"data" + bytes(2)), closed(aos(b"data" + bytes(2)))):
+        run.secure(4, 9, frame, 3, field=True)
+    run.fresh(replace(CAMERAS, direction=2))
+    run.check(4, closed(secured_frame(CAMERAS, 4, aos(b"data" + bytes(2)), 64)), 3, field=True)
+    run.case("another word on it: absent, its octets are data; present, the last octets of data are taken for it")
+    run.fresh(B)
+    frame = with_field(1, b"data")
+    assert run.secure(1, 9, frame, 0)[11:17] == b"data" + frame[-2:]
+    run.secure(1, 9, tc(9, b"data"), 12, field=True)
+    run.case("slips: preset with zeros, least bit first, over the data alone, before the length is rewritten, inverted at the end")
+    sent = secured_frame(B, 1, frame, 64, field=True)
+    zeros = bytes(x ^ y for x, y in zip(check_field(sent[:-2]), check_field(bytes(len(sent) - 2))))
+    mirrored = bytes(int(format(x, "08b")[::-1], 2) for x in check_field(bytes(int(format(x, "08b")[::-1], 2) for x in sent[:-2])))
+    old_length = check_field(frame[:4] + sent[4:-2])
+    run.fresh(RECEIVING)
+    for slip in (zeros, mirrored, mirrored[::-1], check_field(sent[11:-2]), check_field(sent[:-18]), old_length, bytes(255 - x for x in sent[-2:]), sent[:-3:-1]):
+        assert slip != sent[-2:]
+        run.check(1, sent[:-2] + slip, 12, field=True)
+    run.check(1, sent, 0, field=True)
+    run.case("12 after 3 and before 4, in securing and in checking")
+    run.fresh(B)
+    wrong = frame[:-1] + bytes([frame[-1] ^ 1])
+    run.secure(1, 10, wrong + b"\x00", 3, room=0, field=True)
+    run.secure(1, 10, wrong, 12, room=0, field=True)
+    run.secure(1, 10, frame, 4, room=0, field=True)
+    run.secure(1, 9, frame, 6, room=0, field=True)
+    run.fresh(RECEIVING)
+    wrong = sent[:-1] + bytes([sent[-1] ^ 1])
+    run.check(1, wrong + b"\x00", 3, room=0, field=True)
+    run.check(1, wrong, 12, room=0, field=True)
+    run.check(1, closed(sent[:6] + b"\x0a" + sent[7:]), 4, room=0, field=True)
+    run.check(1, closed(sent[:20] + bytes([sent[20] ^ 1]) + sent[21:]), 7, field=True)
+
+
 def frame_refusals(run):
     """3, of clear frames and of secured ones, under an association of their kind."""
     for kind, ocf in ((1, b""), (2, b""), (3, b""), (3, b"ocf."), (4, b"")):
@@ -907,6 +995,7 @@ def main():
     frame_refusals(run)
     aos_fields(run)
     channel_sets(run)
+    check_fields(run)
     entry_refusals(run)
     identifier_bits(run)
     orders(run)

@@ -18,6 +18,7 @@ ANSWERS = {
     8: "number outside the window",
     10: "numbers used up",
     11: "secured frame would be too long",
+    12: "check field differs",
 }
 
 
@@ -39,13 +40,13 @@ class Module:
     def __init__(self, path):
         library = ctypes.CDLL(path)
         buffer, size, numbers = ctypes.POINTER(ctypes.c_uint8), ctypes.c_size_t, ctypes.POINTER(ctypes.c_uint32)
-        kind, spi = ctypes.c_uint8, ctypes.c_uint16
+        kind, check_field, spi = ctypes.c_uint8, ctypes.c_uint8, ctypes.c_uint16
         self._load = library.xistalvo_load
         self._load.argtypes = [buffer, size, numbers, size]
         self._secure = library.xistalvo_secure
-        self._secure.argtypes = [buffer, size, numbers, size, kind, spi, buffer, size, buffer, size]
+        self._secure.argtypes = [buffer, size, numbers, size, kind, check_field, spi, buffer, size, buffer, size]
         self._check = library.xistalvo_check
-        self._check.argtypes = [buffer, size, numbers, size, kind, buffer, size, buffer, size]
+        self._check.argtypes = [buffer, size, numbers, size, kind, check_field, buffer, size, buffer, size]
         for function in (self._load, self._secure, self._check):
             function.restype = ctypes.c_uint64
 
@@ -62,18 +63,18 @@ class End:
         """Makes the numbers from the image. Every load is a restart."""
         return Result(self.module._load(self.image, len(self.image), self.numbers, NUMBERS))
 
-    def secure(self, kind, spi, frame):
-        """The secured frame, in the result's octets."""
+    def secure(self, kind, spi, frame, check_field=False):
+        """The secured frame, in the result's octets. It ends in a check field if the clear one does."""
         lent, output = (ctypes.c_uint8 * len(frame))(*frame), (ctypes.c_uint8 * LARGEST_FRAME)()
         packed = self.module._secure(
-            self.image, len(self.image), self.numbers, NUMBERS, kind, spi, lent, len(frame), output, LARGEST_FRAME
+            self.image, len(self.image), self.numbers, NUMBERS, kind, check_field, spi, lent, len(frame), output, LARGEST_FRAME
         )
         return Result(packed, output)
 
-    def check(self, kind, frame):
+    def check(self, kind, frame, check_field=False):
         """The clear data, in the result's octets."""
         lent, output = (ctypes.c_uint8 * len(frame))(*frame), (ctypes.c_uint8 * LARGEST_FRAME)()
         packed = self.module._check(
-            self.image, len(self.image), self.numbers, NUMBERS, kind, lent, len(frame), output, LARGEST_FRAME
+            self.image, len(self.image), self.numbers, NUMBERS, kind, check_field, lent, len(frame), output, LARGEST_FRAME
         )
         return Result(packed, output)

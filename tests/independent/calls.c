@@ -1,4 +1,4 @@
-/* Document 01: 'Frames' (from 'A secured frame is'), 'Managed numbers' and 'What comes back'. */
+/* Document 01: 'Frames' (from 'A secured frame is'), 'Managed numbers' and 'What comes back'; document 02, request 4: answer 12. */
 #include "ciphers.h"
 #include "reading.h"
 
@@ -45,7 +45,7 @@ static void authentication_mac(const struct association *association, const uint
     cmac(association->key, covered, head_length + data_length, mac);
 }
 
-/* 'header, security header, data, 16-octet MAC, and the OCF if any' */
+/* 'header, security header, data, 16-octet MAC, and the OCF if any'; a check field 'after the OCF', 'made last when sending' */
 size_t protect_frame(const struct association *association, const struct header *header, const uint8_t sequence[SEQUENCE_LENGTH],
                      const uint8_t *clear, size_t clear_length, uint8_t *secured)
 {
@@ -76,6 +76,9 @@ size_t protect_frame(const struct association *association, const struct header 
         gcm_seal(association->key, sequence, head, head_length, data, data_length, place, mac);
     }
     memcpy(mac + MAC_LENGTH, data + data_length, header->trailer); /* 'and the OCF are copied' */
+    if (header->has_field) {
+        write_check_field(secured, secured_length);
+    }
     return secured_length;
 }
 
@@ -204,7 +207,7 @@ void reading_load(const struct call *call, struct effect *effect)
     }
 }
 
-/* ---- securing: 1, 2, 3, 4, 11, 6, 10 ---- */
+/* ---- securing: 1, 2, 3, 12, 4, 11, 6, 10 ---- */
 
 /* What the tests find on their way. */
 struct found {
@@ -221,8 +224,11 @@ static unsigned answer_of_securing(const struct call *call, struct found *found)
     if (!numbers_agree(call, &found->table)) {
         return 2;
     }
-    if (!read_clear_frame(call->kind, call->frame, call->frame_length, &found->header)) {
+    if (!read_clear_frame(call->kind, call->has_field, call->frame, call->frame_length, &found->header)) {
         return 3;
+    }
+    if (call->has_field && !check_field_is_right(call->frame, call->frame_length)) {
+        return 12;
     }
     if (!find(&found->table, call->spi, 1, call->kind, &found->header, &found->entry)) {
         return 4;
@@ -257,7 +263,7 @@ void reading_secure(const struct call *call, struct effect *effect)
                                    effect->result);
 }
 
-/* ---- checking: 1, 2, 3, 4, 5, 9, 6, 7, 8 ---- */
+/* ---- checking: 1, 2, 3, 12, 4, 5, 9, 6, 7, 8 ---- */
 
 /* Where the parts of a secured frame lie, once an association is found. */
 struct parts {
@@ -317,8 +323,11 @@ static unsigned answer_of_checking(const struct call *call, struct found *found,
     if (!numbers_agree(call, &found->table)) {
         return 2;
     }
-    if (!read_secured_frame(call->kind, call->frame, call->frame_length, &found->header)) {
+    if (!read_secured_frame(call->kind, call->has_field, call->frame, call->frame_length, &found->header)) {
         return 3;
+    }
+    if (call->has_field && !check_field_is_right(call->frame, call->frame_length)) {
+        return 12;
     }
     unsigned spi = call->frame[found->header.length] * 256u + call->frame[found->header.length + 1];
     if (!find(&found->table, spi, 2, call->kind, &found->header, &found->entry)) {

@@ -1,4 +1,4 @@
-/* Document 01, 'Frames', and document 02, request 1: the three headers, bit after bit, and the rules of answer 3. */
+/* Document 01, 'Frames', and document 02, requests 1 and 4: the three headers, bit after bit, and the rules of answer 3. */
 #include "reading.h"
 
 /* 'the first bit is the most significant' */
@@ -69,8 +69,21 @@ static bool read_aos_header(const uint8_t *frame, struct header *header)
     return version == 1;
 }
 
-/* The header rules, the length field, and 'above largest'. A frame too short to hold its header is below every size that is asked for. */
-static bool read_header(unsigned kind, const uint8_t *frame, size_t length, struct header *header)
+static bool read_fields(unsigned kind, const uint8_t *frame, size_t length, struct header *header)
+{
+    switch (kind) {
+    case 3:
+        return read_tm_header(frame, header);
+    case 4:
+        return read_aos_header(frame, header);
+    default:
+        return read_tc_header(kind == 2, frame, length, header);
+    }
+}
+
+/* The header rules, the length field, and 'above largest'. A frame too short to hold its header is below every size that is asked for. A
+ * check field: 'for kind 4 that gives 3. Then f grows by 2'. */
+static bool read_header(unsigned kind, bool has_field, const uint8_t *frame, size_t length, struct header *header)
 {
     switch (kind) {
     case 1:
@@ -89,17 +102,12 @@ static bool read_header(unsigned kind, const uint8_t *frame, size_t length, stru
     default:
         return false;
     }
-    if (length < header->length || length > header->largest) {
+    if (length < header->length || length > header->largest || !read_fields(kind, frame, length, header)) {
         return false;
     }
-    switch (kind) {
-    case 3:
-        return read_tm_header(frame, header);
-    case 4:
-        return read_aos_header(frame, header);
-    default:
-        return read_tc_header(kind == 2, frame, length, header);
-    }
+    header->has_field = has_field;
+    header->trailer += has_field ? CHECK_FIELD_LENGTH : 0;
+    return !(kind == 4 && has_field);
 }
 
 /* 'length 10 (all octets of the frame less one)' is a field of TC alone. */
@@ -109,15 +117,15 @@ bool has_length_field(unsigned kind)
 }
 
 /* 'clear below h+1+f' */
-bool read_clear_frame(unsigned kind, const uint8_t *frame, size_t length, struct header *header)
+bool read_clear_frame(unsigned kind, bool has_field, const uint8_t *frame, size_t length, struct header *header)
 {
-    return read_header(kind, frame, length, header) && length >= header->length + 1 + header->trailer;
+    return read_header(kind, has_field, frame, length, header) && length >= header->length + 1 + header->trailer;
 }
 
 /* 'secured below h+2+f' */
-bool read_secured_frame(unsigned kind, const uint8_t *frame, size_t length, struct header *header)
+bool read_secured_frame(unsigned kind, bool has_field, const uint8_t *frame, size_t length, struct header *header)
 {
-    return read_header(kind, frame, length, header) && length >= header->length + 2 + header->trailer;
+    return read_header(kind, has_field, frame, length, header) && length >= header->length + 2 + header->trailer;
 }
 
 void write_tc_length(uint8_t *frame, size_t length)

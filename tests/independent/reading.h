@@ -18,6 +18,7 @@ enum {
     MASK_LENGTH = 6,
     KEY_LENGTH = 32,
     MAC_LENGTH = 16,
+    CHECK_FIELD_LENGTH = 2,
     SEQUENCE_LENGTH = 12,   /* an IV's; a number of service 1 has the last 4 octets of it */
     MOST_STORES = 16        /* 'at most 16 per call' */
 };
@@ -70,16 +71,22 @@ struct store store_of_raise(size_t count, size_t entry, uint32_t mark);
 /* 'Frames': what a header says, once it obeys its kind. */
 struct header {
     size_t length;   /* h */
-    size_t trailer;  /* f */
+    size_t trailer;  /* f: OCF and check field */
+    bool has_field;  /* document 02, request 4: it ends in a check field, as the caller says */
     size_t largest;
     unsigned spacecraft;
     unsigned channel;
     unsigned map;
 };
 
-/* True where the frame obeys its kind as a clear frame, or as a secured one. */
-bool read_clear_frame(unsigned kind, const uint8_t *frame, size_t length, struct header *header);
-bool read_secured_frame(unsigned kind, const uint8_t *frame, size_t length, struct header *header);
+/* True where the frame obeys its kind as a clear frame, or as a secured one, and may end in a check field if it is said to. */
+bool read_clear_frame(unsigned kind, bool has_field, const uint8_t *frame, size_t length, struct header *header);
+bool read_secured_frame(unsigned kind, bool has_field, const uint8_t *frame, size_t length, struct header *header);
+
+/* The check field of octets; whether a frame ends in that of what stands before it; and writes it there. */
+uint16_t check_field_of(const uint8_t *octets, size_t length);
+bool check_field_is_right(const uint8_t *frame, size_t length);
+void write_check_field(uint8_t *frame, size_t length);
 
 /* Whether frames of a kind have a length field: TC alone. */
 bool has_length_field(unsigned kind);
@@ -104,6 +111,7 @@ struct call {
     const uint32_t *numbers;
     size_t numbers_length;
     unsigned kind;
+    bool has_field;
     unsigned spi; /* securing only */
     const uint8_t *frame;
     size_t frame_length;

@@ -34,8 +34,8 @@ static void print_octets(const char *name, const uint8_t *octets, size_t length)
 
 static void print_input(const struct input *input)
 {
-    fprintf(stderr, "  call %s, kind %u, spi %u, output of %zu octets\n", call_names[input->which], input->kind, input->spi,
-            input->output_length);
+    fprintf(stderr, "  call %s, kind %u, check field %u, spi %u, output of %zu octets\n", call_names[input->which], input->kind,
+            input->check_field, input->spi, input->output_length);
     print_octets("image", input->image, input->image_length);
     fprintf(stderr, "  numbers, %zu:", input->numbers_length);
     for (size_t i = 0; i < input->numbers_length; i++) {
@@ -117,11 +117,11 @@ static uint64_t call_module(const struct input *input)
     case CALL_LOAD:
         return xistalvo_load(image_area.range, input->image_length, numbers, input->numbers_length);
     case CALL_SECURE:
-        return xistalvo_secure(image_area.range, input->image_length, numbers, input->numbers_length, input->kind, input->spi,
-                               frame_area.range, input->frame_length, output_area.range, input->output_length);
+        return xistalvo_secure(image_area.range, input->image_length, numbers, input->numbers_length, input->kind, input->check_field,
+                               input->spi, frame_area.range, input->frame_length, output_area.range, input->output_length);
     default:
-        return xistalvo_check(image_area.range, input->image_length, numbers, input->numbers_length, input->kind, frame_area.range,
-                              input->frame_length, output_area.range, input->output_length);
+        return xistalvo_check(image_area.range, input->image_length, numbers, input->numbers_length, input->kind, input->check_field,
+                              frame_area.range, input->frame_length, output_area.range, input->output_length);
     }
 }
 
@@ -138,8 +138,8 @@ static void take_all_back(void)
 
 static void read_document(const struct input *input, struct effect *effect)
 {
-    struct call call = {input->image, input->image_length, input->numbers, input->numbers_length, input->kind, input->spi,
-                        input->frame, input->frame_length, input->output_length};
+    struct call call = {input->image, input->image_length, input->numbers, input->numbers_length, input->kind,
+                        input->check_field != 0, input->spi, input->frame, input->frame_length, input->output_length};
     switch (input->which) {
     case CALL_LOAD:
         reading_load(&call, effect);

@@ -17,6 +17,7 @@ struct input {
     uint32_t numbers[NUMBER_ROOM];
     size_t numbers_length;
     uint8_t kind;
+    uint8_t check_field; /* 0 says that there is none, any other number that there is one */
     uint16_t spi;
     uint8_t frame[FRAME_ROOM];
     size_t frame_length;

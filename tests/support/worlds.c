@@ -226,14 +226,17 @@ static size_t make_header(struct random *random, const struct association *assoc
     }
 }
 
-size_t make_clear_frame(struct random *random, const struct association *association, size_t data_length, uint8_t *frame)
+size_t make_clear_frame(struct random *random, const struct association *association, bool has_field, size_t data_length, uint8_t *frame)
 {
     bool has_ocf = association->kind == 3 && random_percent(random, 50);
     size_t header = make_header(random, association, has_ocf, frame);
-    size_t length = header + data_length + (has_ocf ? 4 : 0);
+    size_t length = header + data_length + (has_ocf ? 4 : 0) + (has_field ? CHECK_FIELD_LENGTH : 0);
     random_octets(random, frame + header, length - header);
     if (has_length_field(association->kind)) {
         write_tc_length(frame, length);
+    }
+    if (has_field) {
+        write_check_field(frame, length);
     }
     return length;
 }
@@ -266,6 +269,7 @@ void input_of_end(struct input *input, enum which_call which, const struct end *
     input->numbers_length = NUMBER_COUNT;
     memcpy(input->numbers, end->numbers, sizeof end->numbers);
     input->kind = 0;
+    input->check_field = 0;
     input->spi = 0;
     input->frame_length = 0;
     input->output_length = 0;

@@ -31,8 +31,9 @@ void set_number(struct end *end, size_t entry, uint32_t number);
 /* Makes every association but one anew, with the same SPIs and with numbers that agree. The image breaks no rule, before and after. */
 void change_others(struct random *random, struct input *input, size_t kept);
 
-/* A clear frame that matches the association, of any of its channels, with this many octets of data, and its length. */
-size_t make_clear_frame(struct random *random, const struct association *association, size_t data_length, uint8_t *frame);
+/* A clear frame that matches the association, of any of its channels, with this many octets of data, and its length; a check field at its end
+ * if it is to have one, which is then right. */
+size_t make_clear_frame(struct random *random, const struct association *association, bool has_field, size_t data_length, uint8_t *frame);
 
 /* A number of data octets from 1, such that most secured frames are small and some are around the largest. */
 size_t any_data_length(struct random *random, const struct association *association);

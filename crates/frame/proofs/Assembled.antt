@@ -7,10 +7,11 @@ use mathlib.Core.List.{List, _++_, append-assoc}
 use native.Mathlib.Omega.{arith}
 use lib.ListN.{length, take, drop, length-append}
 use lib.Seq.{slice, take-at, drop-at}
-use Rattle.kinds.specs.Kinds.{Kind}
-use Rattle.frame.specs.Parts.{macLength, headerEnd, securityEnd, macStart, trailerStart, securedLength}
-use Rattle.frame.specs.Parts.{headerOf, trailerOf, clearContent, securityOf, securedContent, macOf}
-use Rattle.frame.proofs.Room.{length-trailer, length-clear}
+use Rattle.kinds.specs.Kinds.{Kind, checkFieldLength}
+use Rattle.frame.specs.Closing.{controlOf}
+use Rattle.frame.specs.Parts.{macLength, headerEnd, securityEnd, macStart, trailerStart, controlEnd, securedLength}
+use Rattle.frame.specs.Parts.{headerOf, clearContent, securityOf, securedContent, macOf}
+use Rattle.frame.proofs.Room.{length-clear}
 
 -- the part q of p, q, r
 middle : (p q r : List ℕ) (a b : ℕ) → length p ≡ a → a + length q ≡ b → slice a b (p ++ (q ++ r)) ≡ q
@@ -32,12 +33,11 @@ length-assembled header security text mac trailer =
     omega arith
 
 -- securing puts a security header and a MAC between the parts of a clear frame, and lengthens it by these
-pub length-securing : (k : Kind) (clear header security text mac : List ℕ) → k .header clear + k .trailer clear ≤ length clear
+pub length-securing : (k : Kind) (clear header security text mac trailer : List ℕ) → k .header clear + k .trailer clear ≤ length clear
     → length header ≡ k .header clear → length text ≡ length (clearContent k clear) → length mac ≡ macLength
-    → length (assembled header security text mac (trailerOf k clear)) ≡ securedLength (length security) clear
-length-securing k clear header security text mac room h t m =
-    let a = length-assembled header security text mac (trailerOf k clear) in
-    let b = length-trailer k clear room in
+    → length trailer ≡ k .trailer clear → length (assembled header security text mac trailer) ≡ securedLength (length security) clear
+length-securing k clear header security text mac trailer room h t m f =
+    let a = length-assembled header security text mac trailer in
     let c = length-clear k clear room in
     omega arith
 
@@ -78,15 +78,21 @@ module _ (k : Kind) (header security text mac trailer : List ℕ) where
         ap (slice (macStart k frame) (trailerStart k frame)) before-mac
         ∙ middle (header ++ (security ++ text)) mac trailer (macStart k frame) (trailerStart k frame) (omega arith) (omega arith)
 
-    before-trailer : frame ≡ (header ++ (security ++ (text ++ mac))) ++ trailer
-    before-trailer = simp append-assoc
+-- of a trailer in two parts, the first is the control field if the second is as long as the check field
+module _ (k : Kind) (header security text mac control field : List ℕ) where
+  abbrev whole : List ℕ
+  whole = assembled header security text mac (control ++ field)
 
-    pub trailer-read : trailerOf k frame ≡ trailer
-    unfolding trailerOf
-    trailer-read =
-        let n = length-assembled header security text mac trailer in
-        let a = length-append header (security ++ (text ++ mac)) in
-        let b = length-append security (text ++ mac) in
-        let c = length-append text mac in
-        ap (drop (trailerStart k frame)) before-trailer
-        ∙ drop-at (header ++ (security ++ (text ++ mac))) trailer (trailerStart k frame) (omega arith)
+  pub control-read : length header ≡ k .header whole → length mac ≡ macLength → length (control ++ field) ≡ k .trailer whole
+      → length field ≡ checkFieldLength (k .endsInField) → controlOf k whole ≡ control
+  unfolding controlOf
+  control-read h m f l =
+      let before : List ℕ = header ++ (security ++ (text ++ mac)) in
+      let n = length-assembled header security text mac (control ++ field) in
+      let a = length-append header (security ++ (text ++ mac)) in
+      let b = length-append security (text ++ mac) in
+      let c = length-append text mac in
+      let d = length-append control field in
+      let split : whole ≡ before ++ (control ++ field) = simp append-assoc in
+      ap (slice (trailerStart k whole) (controlEnd k whole)) split
+      ∙ middle before control field (trailerStart k whole) (controlEnd k whole) (omega arith) (omega arith)

@@ -1,4 +1,5 @@
 pub mod Assembled
+pub mod Closed
 pub mod Fronting
 pub mod Masking
 pub mod Rebuilt

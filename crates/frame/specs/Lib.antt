@@ -1,3 +1,4 @@
+pub mod Closing
 pub mod Masked
 pub mod Parts
 pub mod Rules

@@ -1,6 +1,6 @@
 -- Document 01, 'Frames' and 'What comes back', answers 5 and 11: where the parts of a clear and of a secured frame lie. A clear frame is
 -- header, data and trailer; a secured one is header, security header of s octets, data, MAC of 16 and trailer. The trailer is the
--- operational control field, if any. Of a frame too short for its parts the places are only numbers, cut at 0.
+-- operational control field and the check field, if any. Of a frame too short for its parts the places are only numbers, cut at 0.
 -- Assumes nothing.
 use Prim.Native.Nat.{ℕ, _+_, _-_}
 use mathlib.Core.Bool.{Bool}
@@ -8,7 +8,7 @@ use mathlib.Core.List.{List}
 use lib.Dec.{ltb}
 use lib.ListN.{length, take, drop}
 use lib.Seq.{slice}
-use Rattle.kinds.specs.Kinds.{Kind}
+use Rattle.kinds.specs.Kinds.{Kind, checkFieldLength}
 use Rattle.frame.specs.declared.parts.ClearParts.{ClearParts}
 use Rattle.frame.specs.declared.parts.SecuredParts.{SecuredParts}
 
@@ -27,11 +27,15 @@ securityEnd k s frame = headerEnd k frame + s
 abbrev pub trailerStart : Kind → List ℕ → ℕ
 trailerStart k frame = length frame - k .trailer frame
 
+-- the operational control field ends where the check field begins
+abbrev pub controlEnd : Kind → List ℕ → ℕ
+controlEnd k frame = length frame - checkFieldLength (k .endsInField)
+
 abbrev pub macStart : Kind → List ℕ → ℕ
 macStart k frame = trailerStart k frame - macLength
 
 abbrev pub clearParts : Kind → List ℕ → ClearParts
-clearParts k frame = record { header = headerEnd k frame; content = trailerStart k frame }
+clearParts k frame = record { header = headerEnd k frame; content = trailerStart k frame; control = controlEnd k frame }
 
 abbrev pub securedParts : Kind → ℕ → List ℕ → SecuredParts
 securedParts k s frame =

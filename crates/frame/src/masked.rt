@@ -1,11 +1,11 @@
 // Document 01, 'Frames': the header as the MAC covers it, each octet ANDed with the mask.
 use crate::total::lesser;
-use kinds::Kind;
+use kinds::Framing;
 use octets::octet_at;
 ghost use mathlib.Core.Path.{_≡_};
 ghost use Rattle.octets.specs.Lists.{octet};
 ghost use Rattle.octets.specs.Output.{fronted};
-ghost use Rattle.kinds.specs.Kinds.{kindIs};
+ghost use Rattle.kinds.specs.Kinds.{framed};
 ghost use Rattle.frame.specs.Masked.{masked, maskedHeader, answered};
 
 // What came of writing to an output: so many octets stand at its front, or it has no room for them and is as it was.
@@ -27,9 +27,10 @@ fn masked_octet(mask: &[u8], frame: &[u8], i: usize) -> u8
 
 // The masked header to the front of `out`, whose rest stays. Only the header's own
 // octets are masked, so a security header that lies in `out` behind them is not.
-pub fn mask_header(kind: Kind, mask: &[u8], frame: &[u8], out: &mut [u8]) -> Written
-    ensures { λ r. ⌜ (r ≡ answered (maskedHeader (kindIs kind) (now (mask .entry)) (now (frame .entry))) (now (out .entry))) × (now (out .exit) ≡ fronted (maskedHeader (kindIs kind) (now (mask .entry)) (now (frame .entry))) (now (out .entry))) ⌝ }
+pub fn mask_header(framing: Framing, mask: &[u8], frame: &[u8], out: &mut [u8]) -> Written
+    ensures { λ r. ⌜ (r ≡ answered (maskedHeader (framed framing) (now (mask .entry)) (now (frame .entry))) (now (out .entry))) × (now (out .exit) ≡ fronted (maskedHeader (framed framing) (now (mask .entry)) (now (frame .entry))) (now (out .entry))) ⌝ }
 {
+    let kind = framing.kind;
     let count = lesser(kind.header_length(frame), frame.len());
     if out.len() < count {
         return Written::NoRoom;

@@ -1,9 +1,9 @@
 // Document 01, 'What comes back', answer 3: whether a frame obeys the kind that a number names.
-use kinds::Kind;
+use kinds::Framing;
 use kinds::Named;
 use kinds::kind_of;
 ghost use mathlib.Core.Path.{_≡_};
-ghost use Rattle.kinds.specs.Kinds.{kindIs, kindOf};
+ghost use Rattle.kinds.specs.Kinds.{kindOf, withCheckField, framed};
 ghost use Rattle.frame.specs.Rules.{least, obeys};
 
 // The least octets between header and trailer: one of data, or the SPI.
@@ -13,22 +13,23 @@ fn least_between(secured: bool) -> usize
     if secured { 2 } else { 1 }
 }
 
-pub fn kind_obeyed(kind: Kind, frame: &[u8], secured: bool) -> bool
-    ensures { λ r. ⌜ r ≡ obeys (kindIs kind) (now (frame .entry)) secured ⌝ }
+pub fn framing_obeyed(framing: Framing, frame: &[u8], secured: bool) -> bool
+    ensures { λ r. ⌜ r ≡ obeys (framed framing) (now (frame .entry)) secured ⌝ }
 {
-    let least = kind.header_length(frame) + least_between(secured) + kind.trailer_length(frame);
-    kind.keeps_rules(frame)
+    let kind = framing.kind;
+    let least = kind.header_length(frame) + least_between(secured) + framing.trailer_length(frame);
+    framing.keeps_rules(frame)
         & kind.counts_length(frame)
         & (frame.len() <= kind.largest())
         & (least <= frame.len())
 }
 
 // No frame obeys a number that names no kind.
-pub fn obeys(number: u8, frame: &[u8], secured: bool) -> bool
-    ensures { λ r. ⌜ r ≡ obeys (kindOf number) (now (frame .entry)) secured ⌝ }
+pub fn obeys(number: u8, field: bool, frame: &[u8], secured: bool) -> bool
+    ensures { λ r. ⌜ r ≡ obeys (withCheckField field (kindOf number)) (now (frame .entry)) secured ⌝ }
 {
     match kind_of(number) {
-        Named::Kind(kind) => kind_obeyed(kind, frame, secured),
+        Named::Kind(kind) => framing_obeyed(Framing { kind, field }, frame, secured),
         Named::Nothing => false,
     }
 }

@@ -1,5 +1,6 @@
 // What the crate `frame` answers on a case.
 use frame::Written;
+use kinds::Framing;
 use kinds::Kind;
 use kinds::Named;
 use kinds::Rewritten;
@@ -10,6 +11,7 @@ use lines::print_number;
 pub(crate) struct Case {
     pub kind: u8,
     pub is_secured: bool,
+    pub field: bool,
     pub security: u8,
     pub reach: u8,
     pub length: usize,
@@ -37,7 +39,6 @@ fn print_test(test: bool) {
 
 fn print_kind(kind: Kind, frame: &[u8]) {
     print(kind.header_length(frame));
-    print(kind.trailer_length(frame));
     print(kind.largest());
     print(kind.spacecraft(frame) as usize);
     print_octet(kind.channel(frame));
@@ -47,24 +48,27 @@ fn print_kind(kind: Kind, frame: &[u8]) {
     print_octet(kind.most_map());
 }
 
-fn print_parts(kind: Kind, security: u8, frame: &[u8]) {
-    let clear = frame::clear_parts(kind, frame);
+fn print_parts(framing: Framing, security: u8, frame: &[u8]) {
+    print(framing.trailer_length(frame));
+    let clear = frame::clear_parts(framing, frame);
     print(clear.header);
     print(clear.content);
-    let secured = frame::secured_parts(kind, security, frame);
+    print(clear.control);
+    let secured = frame::secured_parts(framing, security, frame);
     print(secured.header);
     print(secured.security);
     print(secured.content);
     print(secured.mac);
     print(frame::secured_length(security, frame));
-    print_test(frame::exceeds(kind, security, frame));
-    print_test(frame::too_short(kind, security, frame));
+    print_test(frame::exceeds(framing, security, frame));
+    print_test(frame::too_short(framing, security, frame));
+    print_test(frame::field_ok(framing, frame));
 }
 
 // The header under the mask, in an output whose octets are 165 before, so that those behind the header are seen to stay.
-fn print_masked(kind: Kind, mask: &[u8], frame: &[u8]) {
+fn print_masked(framing: Framing, mask: &[u8], frame: &[u8]) {
     let mut out = [165u8; 8];
-    match frame::mask_header(kind, mask, frame, &mut out) {
+    match frame::mask_header(framing, mask, frame, &mut out) {
         Written::Octets(count) => print(count),
         Written::NoRoom => {}
     }
@@ -83,9 +87,13 @@ fn rewrite_front(kind: Kind, s: &mut [u8], n: usize, longer: usize) {
 fn print_named(kind: Kind, case: Case, mask: &[u8], whole: &mut [u8]) {
     let n = case.length;
     let security = case.security;
+    let framing = Framing {
+        kind,
+        field: case.field,
+    };
     print_kind(kind, front(whole, n));
-    print_parts(kind, security, front(whole, n));
-    print_masked(kind, front(mask, case.reach as usize), front(whole, n));
+    print_parts(framing, security, front(whole, n));
+    print_masked(framing, front(mask, case.reach as usize), front(whole, n));
     let longer = frame::secured_length(security, front(whole, n));
     rewrite_front(kind, whole, n, longer);
     print_each(front(whole, 8));
@@ -94,7 +102,12 @@ fn print_named(kind: Kind, case: Case, mask: &[u8], whole: &mut [u8]) {
 // The frame is the first octets of `whole`, as many as the case says.
 pub(crate) fn print_answers(case: Case, mask: &[u8], whole: &mut [u8]) {
     print_number(b"", case.kind as u64);
-    print_test(frame::obeys(case.kind, front(whole, case.length), case.is_secured));
+    print_test(frame::obeys(
+        case.kind,
+        case.field,
+        front(whole, case.length),
+        case.is_secured,
+    ));
     let Named::Kind(kind) = kinds::kind_of(case.kind) else {
         return;
     };

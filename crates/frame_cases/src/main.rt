@@ -8,34 +8,47 @@ use libc::STDIN_FILENO;
 use lines::print;
 use lines::read_line;
 use lines::read_octets;
+use octets::put_behind;
 use octets::two_at;
 
-// A line is 18 octets in hexadecimal. The first six: kind, 1 if secured and else 0, length of the security header, octets of the mask
-// that are used, length of the frame in two octets.
+// A line is 21 octets in hexadecimal. The first seven: kind, 1 if secured and else 0, 1 if it is said to end in a check field and else 0,
+// length of the security header, octets of the mask that are used, length of the frame in two octets.
 fn case_of(line: &[u8]) -> Case {
-    let mut octets = [0u8; 6];
+    let mut octets = [0u8; 7];
     read_octets(line, &mut octets);
     Case {
         kind: octets[0],
         is_secured: octets[1] == 1,
-        security: octets[2],
-        reach: octets[3],
-        length: two_at(&octets, 4) as usize,
+        field: octets[2] == 1,
+        security: octets[3],
+        reach: octets[4],
+        length: two_at(&octets, 5) as usize,
     }
 }
 
-// Whether there was a line. Its other octets are the first six of the frame, whose others are 0, and six of mask. The room is for the
-// longest frame of the cases.
+// The last octets of a frame of n, which is the front of `whole`.
+fn put_last(last: &[u8; 2], n: usize, whole: &mut [u8]) {
+    if 2 <= n {
+        put_behind(last, n - 2, whole);
+    }
+}
+
+// Whether there was a line. Its other octets are the first six of the frame and its last two, whose others are 0, and six of mask. The room
+// is for the longest frame of the cases.
 fn run_line() -> bool {
-    let mut line = [0u8; 37];
-    if read_line(STDIN_FILENO, &mut line) < 37 {
+    let mut line = [0u8; 43];
+    if read_line(STDIN_FILENO, &mut line) < 43 {
         return false;
     }
     let mut whole = [0u8; 4096];
+    let mut last = [0u8; 2];
     let mut mask = [0u8; 6];
-    read_octets(&line[12..24], &mut whole);
-    read_octets(&line[24..36], &mut mask);
-    print_answers(case_of(&line), &mask, &mut whole);
+    read_octets(&line[14..26], &mut whole);
+    read_octets(&line[26..30], &mut last);
+    read_octets(&line[30..42], &mut mask);
+    let case = case_of(&line);
+    put_last(&last, case.length, &mut whole);
+    print_answers(case, &mask, &mut whole);
     print(b"\n");
     true
 }

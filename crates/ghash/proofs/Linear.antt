@@ -6,31 +6,16 @@ use Prim.Native.Nat.{ℕ, zero, suc, _+_, _-_, _*_, _/_, _%_, _^_, _≤_, _<_}
 use native.Mathlib.Omega.{arith}
 use native.Mathlib.Nat.{mod-lt, zero-mul, one-mul, zero-add, suc-add, add-zero, add-comm, mul-assoc, div-add-mod'}
 use borrow.Author.Count.{below-more}
-use lib.Bits.{differ, xor-zero-r, xor-comm, xor-self, xor-shifted, xor-block}
+use lib.Bits.{xor-zero-r, xor-shifted, xor-block}
 use lib.Dec.{lit<, eqb, eqb→eq}
 use lib.ListN.{length, set, replicate, length-set}
 use lib.Pow.{shr-shr, field, mod-mod-pow}
 use lib.Seq.{getD-set-other, getD-set-same}
 use Rattle.octets.specs.Xor.{_⊕_}
 use Rattle.octets.proofs.Tables.{every-at}
-use Rattle.octets.proofs.XorLaws.{xor-assoc, xor-half, xor-odd}
+use Rattle.octets.proofs.XorLaws.{xor-assoc, xor-half, xor-odd, xor-four, bit-scale}
 use Rattle.ghash.specs.Product.{R, nextV, rounds}
 use Rattle.ghash.specs.Table.{nexts, entry}
-
--- (a + b) + (c + d) = (a + c) + (b + d)
-xor-four : (a b c d : ℕ) → (a ⊕ b) ⊕ (c ⊕ d) ≡ (a ⊕ c) ⊕ (b ⊕ d)
-xor-four a b c d =
-    xor-assoc a b (c ⊕ d)
-    ∙ ap (λ (x : ℕ). a ⊕ x) (sym (xor-assoc b c d) ∙ ap (λ (x : ℕ). x ⊕ d) (xor-comm b c) ∙ xor-assoc c b d)
-    ∙ sym (xor-assoc a c (b ⊕ d))
-
--- a bit times a number, the bit a sum of two
-bit-scale : (x y n : ℕ) → x < 2 → y < 2 → differ x y * n ≡ x * n ⊕ y * n
-bit-scale zero y n hx hy = ap (λ (k : ℕ). k ⊕ y * n) (sym (zero-mul n))
-bit-scale (suc x) zero n hx hy = sym (ap (λ (k : ℕ). suc x * n ⊕ k) (zero-mul n) ∙ xor-zero-r (suc x * n))
-bit-scale (suc zero) (suc zero) n hx hy = zero-mul n ∙ sym (xor-self (1 * n))
-bit-scale (suc zero) (suc (suc y)) n hx hy = absurd (omega arith)
-bit-scale (suc (suc x)) (suc y) n hx hy = absurd (omega arith)
 
 next-xor : (a b : ℕ) → nextV (a ⊕ b) ≡ nextV a ⊕ nextV b
 unfolding nextV

@@ -6,8 +6,9 @@ use mathlib.Core.Path.{_≡_, sym, ap, _∙_}
 use mathlib.Core.Bool.{Bool, true, false}
 use mathlib.Core.List.{List, []}
 use native.Mathlib.Omega.{arith}
-use Rattle.kinds.specs.Kinds.{kindIs}
-use Rattle.kinds.specs.declared.kinds.Kind as code
+use Rattle.kinds.specs.Kinds.{framed}
+use Rattle.kinds.specs.declared.framing.Framing.{Framing}
+use Rattle.frame.specs.Closing.{fieldOk}
 use Rattle.frame.specs.Rules.{obeys}
 use Rattle.image.specs.Image.{validImage}
 use Rattle.association.specs.Association.{matching}
@@ -46,14 +47,20 @@ module _ (image last : List ℕ) (w : Wanted) (said : Said) (frame : List ℕ) (
       by-3 o = rw (v, a, o)
 
       module _ (o : obeys (kindSaid said) frame secured ≡ true) where
-        pub by-4 : entryFor image w ≡ found.Nothing → front ≡ 4
-        unfolding seen matching first
-        by-4 n = rw (v, a, o, n)
+        pub by-12 : fieldOk (kindSaid said) frame ≡ false → front ≡ 12
+        unfolding seen first
+        by-12 d = rw (v, a, o, d)
 
-        pub admits : (k : code.Kind) (e : ℕ) → kindSaid said ≡ kindIs k → entryFor image w ≡ found.At e
-            → Admits image last w said secured frame k e
-        unfolding seen matching first
-        admits k e n f = record { answer = rw (v, a, o, f); kinds = sym n; entry = f }
+        module _ (d : fieldOk (kindSaid said) frame ≡ true) where
+          pub by-4 : entryFor image w ≡ found.Nothing → front ≡ 4
+          unfolding seen matching first
+          by-4 n = rw (v, a, o, d, n)
 
-  pub admitted-obeys : (k : code.Kind) (e : ℕ) → Admits image last w said secured frame k e → obeys (kindIs k) frame secured ≡ true
-  admitted-obeys k e r = rw (r .kinds) (fronted (seen image last w) (kindSaid said) frame secured [] (r .answer) .0 .rules)
+          pub admits : (framing : Framing) (e : ℕ) → kindSaid said ≡ framed framing → entryFor image w ≡ found.At e
+              → Admits image last w said secured frame framing e
+          unfolding seen matching first
+          admits framing e n f = record { answer = rw (v, a, o, d, f); kinds = sym n; entry = f }
+
+  pub admitted-obeys : (framing : Framing) (e : ℕ) → Admits image last w said secured frame framing e
+      → obeys (framed framing) frame secured ≡ true
+  admitted-obeys framing e r = rw (r .kinds) (fronted (seen image last w) (kindSaid said) frame secured [] (r .answer) .0 .rules)

@@ -10,6 +10,7 @@ use borrow.Author.Tests.{ltb-false, leb-false, le-ltb, not-false}
 use lib.Dec.{ltb}
 use lib.ListN.{length}
 use Rattle.kinds.specs.Kinds.{Kind}
+use Rattle.frame.specs.Closing.{fieldOk}
 use Rattle.frame.specs.Parts.{exceeds, tooShort}
 use Rattle.frame.specs.Rules.{obeys}
 use Rattle.kinds.proofs.Kept.{lawful}
@@ -35,6 +36,7 @@ pub record Fronts (see : Seen) (k : Kind) (frame : List ℕ) (secured : Bool) : 
   pub valid : see .valid ≡ true
   pub agree : see .agree ≡ true
   pub rules : obeys k frame secured ≡ true
+  pub field : fieldOk k frame ≡ true
   pub found : isNone (see .found) ≡ false
 
 module _ (see : Seen) (k : Kind) (frame : List ℕ) (secured : Bool) (us : List Test) where
@@ -43,11 +45,13 @@ module _ (see : Seen) (k : Kind) (frame : List ℕ) (secured : Bool) (us : List 
       let t1 = passed 1 (not (see .valid)) _ (omega arith) e in
       let t2 = passed 2 (not (see .agree)) _ (omega arith) (t1 .1) in
       let t3 = passed 3 (not (obeys k frame secured)) _ (omega arith) (t2 .1) in
-      let t4 = passed 4 (isNone (see .found)) _ (omega arith) (t3 .1) in (
+      let t12 = passed 12 (not (fieldOk k frame)) _ (omega arith) (t3 .1) in
+      let t4 = passed 4 (isNone (see .found)) _ (omega arith) (t12 .1) in (
         record {
           valid = not-false (see .valid) (t1 .0);
           agree = not-false (see .agree) (t2 .0);
           rules = not-false (obeys k frame secured) (t3 .0);
+          field = not-false (fieldOk k frame) (t12 .0);
           found = t4 .0;
         },
         t4 .1,
@@ -58,6 +62,7 @@ module _ (see : Seen) (k : Kind) (frame : List ℕ) (secured : Bool) (us : List 
       passes 1 (not (see .valid)) _ (ap not (o .valid))
       ∙ passes 2 (not (see .agree)) _ (ap not (o .agree))
       ∙ passes 3 (not (obeys k frame secured)) _ (ap not (o .rules))
+      ∙ passes 12 (not (fieldOk k frame)) _ (ap not (o .field))
       ∙ passes 4 (isNone (see .found)) _ (o .found)
 
 -- ---- securing
@@ -152,7 +157,7 @@ pub securing-size : (see : Seen) (said : Said) (spi : ℕ) (frame : List ℕ) (r
 unfolding securing
 securing-size see said spi frame room z =
     let s = secures see said spi frame room z in
-    wire.length-secured (heldBy see) (kindSaid said) (lawful (said .kind)) spi _ frame (s .front .rules) (s .under .fits)
+    wire.length-secured (heldBy see) (kindSaid said) (lawful (said .checkField) (said .kind)) spi _ frame (s .front .rules) (s .under .fits)
 
 pub checking-size : (see : Seen) (right : Bool) (said : Said) (frame : List ℕ) (room : ℕ) → let q = checking see right said frame room in
     length (q .result) ≡ q .size

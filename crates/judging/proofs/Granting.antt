@@ -7,9 +7,9 @@ use mathlib.Core.List.{List}
 use native.Mathlib.Omega.{arith}
 use borrow.Author.Tests.{ltb-false}
 use lib.ListN.{length}
-use Rattle.kinds.specs.Kinds.{Kind, kindIs}
-use Rattle.kinds.specs.declared.kinds.Kind as code
-use Rattle.kinds.proofs.Kept.{lawful-kind}
+use Rattle.kinds.specs.Kinds.{Kind, framed}
+use Rattle.kinds.specs.declared.framing.Framing.{Framing}
+use Rattle.kinds.proofs.Kept.{lawful-framed}
 use Rattle.kinds.proofs.Sizes.{largest-most}
 use Rattle.frame.specs.Rules.{obeys}
 use Rattle.frame.proofs.Room.{Obeys, obeyed}
@@ -23,38 +23,38 @@ use Rattle.judging.specs.Answers.{first}
 use Rattle.judging.specs.Replies.{sendingTests, receivingTests}
 use Rattle.judging.proofs.Answered.{sends, receives}
 
-module _ (h : Held) (last : ℕ) (kind : code.Kind) (frame : List ℕ) (room : ℕ) (o : obeys (kindIs kind) frame false ≡ true)
-    (z : first (sendingTests h last (kindIs kind) frame room) ≡ 0) where
-  pub securable : Securable h (kindIs kind) frame room
+module _ (h : Held) (last : ℕ) (framing : Framing) (frame : List ℕ) (room : ℕ) (o : obeys (framed framing) frame false ≡ true)
+    (z : first (sendingTests h last (framed framing) frame room) ≡ 0) where
+  pub securable : Securable h (framed framing) frame room
   securable =
-      let b : Obeys (kindIs kind) frame false = obeyed (kindIs kind) frame false o in
-      let m = largest-most kind in
+      let b : Obeys (framed framing) frame false = obeyed (framed framing) frame false o in
+      let m = largest-most (framing .kind) in
       record {
         parted = omega (arith, b .room);
         small = omega (arith, b .largest);
-        roomy = sends h last (kindIs kind) frame room z .roomy;
+        roomy = sends h last (framed framing) frame room z .roomy;
       }
 
-  pub frame-size : (spi n : ℕ) → length (securedFrame h (kindIs kind) spi n frame) ≡ securedLength h frame
-  frame-size spi n = length-whole h (kindIs kind) (lawful-kind kind) frame (securable .parted) spi n
+  pub frame-size : (spi n : ℕ) → length (securedFrame h (framed framing) spi n frame) ≡ securedLength h frame
+  frame-size spi n = length-whole h (framed framing) (lawful-framed framing) frame (securable .parted) spi n
 
--- ---- a frame that is opened, by the kind and under what it was opened with
+-- ---- a frame that is opened, by the framing and under what it was opened with
 
-pub opened-so : (kind : code.Kind) (h : Held) (frame : List ℕ) (o : Opening) → o ≡ openingOf kind h frame
-    → obeys (kindIs kind) frame true ≡ true
-    → (obeys (kindIs (o .kind)) frame true ≡ true) × (o ≡ openingOf (o .kind) (o .held) frame)
-opened-so kind h frame o e b =
-    subst (λ (x : Opening). (obeys (kindIs (x .kind)) frame true ≡ true) × (x ≡ openingOf (x .kind) (x .held) frame)) (sym e) (b, refl)
+pub opened-so : (framing : Framing) (h : Held) (frame : List ℕ) (o : Opening) → o ≡ openingOf framing h frame
+    → obeys (framed framing) frame true ≡ true
+    → (obeys (framed (o .framing)) frame true ≡ true) × (o ≡ openingOf (o .framing) (o .held) frame)
+opened-so framing h frame o e b =
+    subst (λ (x : Opening). (obeys (framed (x .framing)) frame true ≡ true) × (x ≡ openingOf (x .framing) (x .held) frame)) (sym e) (b, refl)
 
-module _ (o : Opening) (frame : List ℕ) (b : obeys (kindIs (o .kind)) frame true ≡ true) (e : o ≡ openingOf (o .kind) (o .held) frame) where
+module _ (o : Opening) (frame : List ℕ) (b : obeys (framed (o .framing)) frame true ≡ true) (e : o ≡ openingOf (o .framing) (o .held) frame) where
   abbrev k : Kind
-  k = kindIs (o .kind)
+  k = framed (o .framing)
 
   -- past 3 and 5
   pub opens : k .header frame + securityLength (o .held) + 17 + k .trailer frame ≤ length frame → Opens o frame
   opens l =
       let x : Obeys k frame true = obeyed k frame true b in
-      let m = largest-most (o .kind) in
+      let m = largest-most (o .framing .kind) in
       record { opened = e; parted = l; small = omega (arith, x .largest) }
 
   pub releasable : (last : ℕ) (right : Bool) (room : ℕ) → first (receivingTests (o .held) last right k frame room) ≡ 0

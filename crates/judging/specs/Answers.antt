@@ -32,6 +32,7 @@ reported answer.WrongMac = refusal 7
 reported answer.OutsideWindow = refusal 8
 reported answer.NumbersSpent = refusal 10
 reported answer.TooLong = refusal 11
+reported answer.WrongCheckField = refusal 12
 
 -- ---- the first that applies is given and no other; where none applies, the answer is 0
 

@@ -5,6 +5,7 @@ use mathlib.Core.Bool.{Bool, true, false, not}
 use mathlib.Core.List.{List, [], _∷_, _++_}
 use lib.Dec.{ltb}
 use Rattle.kinds.specs.Kinds.{Kind}
+use Rattle.frame.specs.Closing.{fieldOk}
 use Rattle.frame.specs.Parts.{exceeds, tooShort}
 use Rattle.frame.specs.Rules.{obeys}
 use Rattle.association.specs.Association.{heldIn, Match, isNone, theOne, matching}
@@ -64,6 +65,7 @@ frontTests see k frame secured =
     (1, not (see .valid))
     ∷ (2, not (see .agree))
     ∷ (3, not (obeys k frame secured))
+    ∷ (12, not (fieldOk k frame))
     ∷ (4, isNone (see .found))
     ∷ []
 

@@ -1,12 +1,12 @@
--- What the judging functions find, for their contracts: a refusal, the kind and the entry of a frame that is admitted, and a verdict. No
+-- What the judging functions find, for their contracts: a refusal, the framing and the entry of a frame that is admitted, and a verdict. No
 -- definition of a call cites this file, and no promise does.
 -- Assumes nothing.
 use Prim.Native.Nat.{ℕ, _+_, _<_}
 use mathlib.Core.Path.{_≡_}
 use mathlib.Core.Bool.{Bool}
 use mathlib.Core.List.{List}
-use Rattle.kinds.specs.Kinds.{Kind, kindIs}
-use Rattle.kinds.specs.declared.kinds.Kind as code
+use Rattle.kinds.specs.Kinds.{Kind, framed}
+use Rattle.kinds.specs.declared.framing.Framing.{Framing}
 use Rattle.marks.specs.Stores.{storesOf}
 use Rattle.marks.specs.declared.plans.Store.{Store}
 use Rattle.association.specs.Search.{entryFor}
@@ -29,15 +29,15 @@ pub record Refuses (a : Answer) (n : ℕ) : Type 0 where
   pub answer : reported a ≡ refusal n
   pub some : 0 < n
 
--- ---- past the tests that come first: the frame's kind, and the entry that it matches
+-- ---- past the tests that come first: the frame's framing, and the entry that it matches
 
-pub record Admits (image last : List ℕ) (w : Wanted) (said : Said) (secured : Bool) (frame : List ℕ) (kind : code.Kind) (e : ℕ) : Type 0 where
+pub record Admits (image last : List ℕ) (w : Wanted) (said : Said) (secured : Bool) (frame : List ℕ) (framing : Framing) (e : ℕ) : Type 0 where
   pub answer : first (frontTests (seen image last w) (kindSaid said) frame secured) ≡ 0
-  pub kinds : kindIs kind ≡ kindSaid said
+  pub kinds : framed framing ≡ kindSaid said
   pub entry : entryFor image w ≡ found.At e
 
 abbrev pub Admitted : Admission → List ℕ → List ℕ → Wanted → Said → Bool → List ℕ → Type 0
-Admitted (admission.To kind e) image last w said secured frame = Admits image last w said secured frame kind e
+Admitted (admission.To framing e) image last w said secured frame = Admits image last w said secured frame framing e
 Admitted (admission.Refused a) image last w said secured frame =
     Refuses a (first (frontTests (seen image last w) (kindSaid said) frame secured))
 

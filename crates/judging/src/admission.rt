@@ -1,4 +1,4 @@
-// Document 01, 'What comes back': the tests that come first in securing and in checking, 1, 2, 3, 4 in the paper's order. Nothing is changed.
+// Document 01, 'What comes back': the tests that come first in securing and in checking, 1, 2, 3, 12, 4 in the papers' order. Nothing is changed.
 use crate::answers::Answer;
 use crate::wanted::RECEIVING;
 use crate::wanted::SENDING;
@@ -9,8 +9,9 @@ use association::Numbers;
 use association::Standing;
 use association::find;
 use association::test_standing;
-use frame::kind_obeyed;
-use kinds::Kind;
+use frame::field_ok;
+use frame::framing_obeyed;
+use kinds::Framing;
 use kinds::Named;
 use kinds::kind_of;
 ghost use mathlib.Core.Path.{_≡_};
@@ -22,32 +23,35 @@ ghost use Rattle.judging.specs.Said.{saying};
 ghost use Rattle.judging.specs.Verdicts.{Admitted};
 ghost use Rattle.judging.specs.Wants.{wanted, securingWants, checkingWants};
 
-// The kind of the frame and the entry that it matches, or the first refusal.
+// The framing of the frame and the entry that it matches, or the first refusal.
 pub enum Admission {
-    To(Kind, u8),
+    To(Framing, u8),
     Refused(Answer),
 }
 
-// A frame of a kind, past 1 and 2: 3 and 4.
+// A frame of a kind, past 1 and 2: 3, 12 and 4.
 fn admit_kind(
     image: &[u8],
     numbers: Numbers,
     number: u8,
-    kind: Kind,
+    framing: Framing,
     spi: u16,
     direction: u8,
     frame: &[u8],
     secured: bool,
 ) -> Admission
-    requires { ⌜ (validImage (now image) ≡ true) × (agrees (now image) (numbers .last) ≡ true) × (kindOf number ≡ kindIs kind) ⌝ }
-    ensures { λ r. ⌜ Admitted r (now (image .entry)) (numbers .last) (wanted spi direction (saying number) (now (frame .entry))) (saying number) secured (now (frame .entry)) ⌝ }
+    requires { ⌜ (validImage (now image) ≡ true) × (agrees (now image) (numbers .last) ≡ true) × (kindOf number ≡ kindIs (framing .kind)) ⌝ }
+    ensures { λ r. ⌜ Admitted r (now (image .entry)) (numbers .last) (wanted spi direction (saying number (framing .field)) (now (frame .entry))) (saying number (framing .field)) secured (now (frame .entry)) ⌝ }
 {
-    if !kind_obeyed(kind, frame, secured) {
+    if !framing_obeyed(framing, frame, secured) {
         return Admission::Refused(Answer::BadFrame);
     }
-    let found = find(image, wanted_by(spi, direction, number, kind, frame));
+    if !field_ok(framing, frame) {
+        return Admission::Refused(Answer::WrongCheckField);
+    }
+    let found = find(image, wanted_by(spi, direction, number, framing, frame));
     match found {
-        Found::At(entry) => Admission::To(kind, entry),
+        Found::At(entry) => Admission::To(framing, entry),
         Found::Nothing => Admission::Refused(Answer::NoEntry),
     }
 }
@@ -57,6 +61,7 @@ fn admit(
     image: &[u8],
     numbers: Numbers,
     number: u8,
+    field: bool,
     asked: Named,
     spi: u16,
     direction: u8,
@@ -64,7 +69,7 @@ fn admit(
     secured: bool,
 ) -> Admission
     requires { ⌜ asked ≡ named number ⌝ }
-    ensures { λ r. ⌜ Admitted r (now (image .entry)) (numbers .last) (wanted spi direction (saying number) (now (frame .entry))) (saying number) secured (now (frame .entry)) ⌝ }
+    ensures { λ r. ⌜ Admitted r (now (image .entry)) (numbers .last) (wanted spi direction (saying number field) (now (frame .entry))) (saying number field) secured (now (frame .entry)) ⌝ }
 {
     let standing = test_standing(image, numbers);
     match standing {
@@ -75,7 +80,7 @@ fn admit(
                 image,
                 numbers,
                 number,
-                kind,
+                Framing { kind, field },
                 spi,
                 direction,
                 frame,
@@ -87,18 +92,51 @@ fn admit(
 }
 
 // A clear frame that is to be sent under an SPI.
-pub fn admit_sending(image: &[u8], numbers: Numbers, kind: u8, spi: u16, frame: &[u8]) -> Admission
-    ensures { λ r. ⌜ Admitted r (now (image .entry)) (numbers .last) (securingWants (saying kind) spi (now (frame .entry))) (saying kind) false (now (frame .entry)) ⌝ }
+pub fn admit_sending(
+    image: &[u8],
+    numbers: Numbers,
+    kind: u8,
+    field: bool,
+    spi: u16,
+    frame: &[u8],
+) -> Admission
+    ensures { λ r. ⌜ Admitted r (now (image .entry)) (numbers .last) (securingWants (saying kind field) spi (now (frame .entry))) (saying kind field) false (now (frame .entry)) ⌝ }
 {
     let asked = kind_of(kind);
-    admit(image, numbers, kind, asked, spi, SENDING, frame, false)
+    admit(
+        image,
+        numbers,
+        kind,
+        field,
+        asked,
+        spi,
+        SENDING,
+        frame,
+        false,
+    )
 }
 
 // A secured frame that came in, under the SPI that it holds.
-pub fn admit_receiving(image: &[u8], numbers: Numbers, kind: u8, frame: &[u8]) -> Admission
-    ensures { λ r. ⌜ Admitted r (now (image .entry)) (numbers .last) (checkingWants (saying kind) (now (frame .entry))) (saying kind) true (now (frame .entry)) ⌝ }
+pub fn admit_receiving(
+    image: &[u8],
+    numbers: Numbers,
+    kind: u8,
+    field: bool,
+    frame: &[u8],
+) -> Admission
+    ensures { λ r. ⌜ Admitted r (now (image .entry)) (numbers .last) (checkingWants (saying kind field) (now (frame .entry))) (saying kind field) true (now (frame .entry)) ⌝ }
 {
     let asked = kind_of(kind);
     let spi = spi_on(asked, frame);
-    admit(image, numbers, kind, asked, spi, RECEIVING, frame, true)
+    admit(
+        image,
+        numbers,
+        kind,
+        field,
+        asked,
+        spi,
+        RECEIVING,
+        frame,
+        true,
+    )
 }

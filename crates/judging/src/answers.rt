@@ -1,5 +1,5 @@
-// Document 01, 'What comes back': one variant for each number of the paper's table. Done reports the length of the result and the count of
-// stores.
+// Document 01, 'What comes back', and document 02, request 4: one variant for each number of the papers. Done reports the length of the result
+// and the count of stores.
 pub enum Answer {
     Done(usize, u32),
     BadImage,
@@ -12,4 +12,5 @@ pub enum Answer {
     OutsideWindow,
     NumbersSpent,
     TooLong,
+    WrongCheckField,
 }

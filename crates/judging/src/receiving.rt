@@ -12,7 +12,7 @@ use protection::number_of;
 use services::security_length;
 ghost use mathlib.Core.Path.{_≡_};
 ghost use mathlib.Core.Bool.{true};
-ghost use Rattle.kinds.specs.Kinds.{kindIs};
+ghost use Rattle.kinds.specs.Kinds.{framed};
 ghost use Rattle.frame.specs.Rules.{obeys};
 ghost use Rattle.protection.specs.Steps.{openingOf};
 ghost use Rattle.judging.specs.Verdicts.{Judged, receivingJudged};
@@ -26,12 +26,12 @@ pub fn judge_receiving(
     frame: &[u8],
     room: usize,
 ) -> Verdict
-    requires { ⌜ (obeys (kindIs (opening .kind)) (now frame) true ≡ true) × (opening ≡ openingOf (opening .kind) (opening .held) (now frame)) ⌝ }
-    ensures { λ r. ⌜ Judged r (receivingJudged (now (image .entry)) entry (opening .held) last (kindIs (opening .kind)) (now (frame .entry)) room) ⌝ }
+    requires { ⌜ (obeys (framed (opening .framing)) (now frame) true ≡ true) × (opening ≡ openingOf (opening .framing) (opening .held) (now frame)) ⌝ }
+    ensures { λ r. ⌜ Judged r (receivingJudged (now (image .entry)) entry (opening .held) last (framed (opening .framing)) (now (frame .entry)) room) ⌝ }
 {
-    let kind = opening.kind;
+    let framing = opening.framing;
     let held = opening.held;
-    if too_short(kind, security_length(held.service), frame) {
+    if too_short(framing, security_length(held.service), frame) {
         return Verdict::Refused(Answer::TooShort);
     }
     let size = clear_length(opening, frame);

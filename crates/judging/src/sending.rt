@@ -6,10 +6,10 @@ use association::Held;
 use association::plan_for;
 use frame::exceeds;
 use frame::secured_length;
-use kinds::Kind;
+use kinds::Framing;
 use services::security_length;
 ghost use mathlib.Core.Path.{_≡_};
-ghost use Rattle.kinds.specs.Kinds.{kindIs};
+ghost use Rattle.kinds.specs.Kinds.{framed};
 ghost use Rattle.judging.specs.Verdicts.{Judged, sendingJudged};
 
 const GREATEST: u32 = 4294967295;
@@ -20,15 +20,15 @@ pub fn judge_sending(
     entry: u8,
     held: Held,
     last: u32,
-    kind: Kind,
+    framing: Framing,
     frame: &[u8],
     room: usize,
 ) -> Verdict
-    ensures { λ r. ⌜ Judged r (sendingJudged (now (image .entry)) entry held last (kindIs kind) (now (frame .entry)) room) ⌝ }
+    ensures { λ r. ⌜ Judged r (sendingJudged (now (image .entry)) entry held last (framed framing) (now (frame .entry)) room) ⌝ }
 {
     let security = security_length(held.service);
     let size = secured_length(security, frame);
-    if exceeds(kind, security, frame) {
+    if exceeds(framing, security, frame) {
         return Verdict::Refused(Answer::TooLong);
     }
     if room < size {

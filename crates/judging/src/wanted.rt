@@ -1,6 +1,6 @@
 // Document 01, 'What comes back', answer 4: what a frame asks of an entry.
 use association::Wanted;
-use kinds::Kind;
+use kinds::Framing;
 use kinds::Named;
 use octets::two_at;
 ghost use mathlib.Core.Path.{_≡_};
@@ -14,10 +14,17 @@ pub(crate) const SENDING: u8 = 1;
 pub(crate) const RECEIVING: u8 = 2;
 
 // `number` is the number that names the kind.
-pub(crate) fn wanted_by(spi: u16, direction: u8, number: u8, kind: Kind, frame: &[u8]) -> Wanted
-    requires { ⌜ kindOf number ≡ kindIs kind ⌝ }
-    ensures { λ r. ⌜ r ≡ wanted spi direction (saying number) (now (frame .entry)) ⌝ }
+pub(crate) fn wanted_by(
+    spi: u16,
+    direction: u8,
+    number: u8,
+    framing: Framing,
+    frame: &[u8],
+) -> Wanted
+    requires { ⌜ kindOf number ≡ kindIs (framing .kind) ⌝ }
+    ensures { λ r. ⌜ r ≡ wanted spi direction (saying number (framing .field)) (now (frame .entry)) ⌝ }
 {
+    let kind = framing.kind;
     Wanted {
         spi,
         direction,

@@ -1,11 +1,11 @@
--- What rewriting the length keeps, shown once for each kind and stated once over all of them: every octet but the length field's, and of a
+-- What rewriting the length keeps, with a check field or without, shown once for each kind and stated once over all of them: every octet but the length field's, and of a
 -- frame that begins with the rewritten header the rules, the lengths of header and trailer and the identifiers.
 -- Assumes nothing.
 use Prim.Native.Nat.{ℕ, _+_, _-_, _*_, _/_, _%_, _≤_, _<_}
 use mathlib.Core.Path.{_≡_, refl, ap, ap₂, _∙_}
 use mathlib.Core.Logic.{_≢_}
 use mathlib.Core.List.{List, _++_}
-use mathlib.Core.Bool.{Bool, true, false, _&&_, cond}
+use mathlib.Core.Bool.{Bool, true, false, _&&_, _||_, not, cond}
 use native.Mathlib.Omega.{arith}
 use borrow.Author.Tests.{eq-eqb, lt-ltb}
 use lib.Dec.{eqb, ltb}
@@ -15,7 +15,8 @@ use Rattle.octets.specs.Lists.{octet}
 use Rattle.headers.specs.Fields.{tcSpacecraft, tcChannel, segmentMap}
 use Rattle.headers.specs.Telecommand.{tcRules, tcLengthOk, tcWithLength}
 use Rattle.kinds.specs.Kinds.{Kind, telecommand, tc, segmentedTc, tm, aos, noKind, kindIs, kindBehind, kindOf, named}
-use Rattle.kinds.specs.declared.kinds.Kind as code
+use Rattle.kinds.specs.Kinds.{checkFieldLength, withCheckField, framed}
+use Rattle.kinds.specs.declared.framing.Framing.{Framing}
 use Rattle.kinds.specs.declared.kinds.Kind.the-variants as kind
 use Rattle.kinds.specs.declared.kinds.Named.{Named}
 use Rattle.kinds.specs.declared.kinds.Named.the-variants as answer
@@ -37,6 +38,8 @@ built k n frame rest = k .withLength n (take (k .header frame) frame) ++ rest
 pub record Lawful (k : Kind) : Type 0 where
   pub long : (n : ℕ) (s : List ℕ) → length (k .withLength n s) ≡ length s
   pub other : (n : ℕ) (s : List ℕ) (j : ℕ) → j ≢ 2 → j ≢ 3 → octet (k .withLength n s) j ≡ octet s j
+  -- f has room for the check field
+  pub counted : (frame : List ℕ) → checkFieldLength (k .endsInField) ≤ k .trailer frame
   pub sameHeader : (n : ℕ) (frame rest : List ℕ) → k .header frame ≤ length frame → k .header (built k n frame rest) ≡ k .header frame
   pub keeps : (n : ℕ) (frame rest : List ℕ) → k .rules frame ≡ true → k .header frame ≤ length frame
       → length (built k n frame rest) ≡ n → 0 < n → n ≤ k .largest → Kept k frame (built k n frame rest)
@@ -126,6 +129,7 @@ telecommand-lawful h most map five same =
     record {
       long = tc-long;
       other = tc-other;
+      counted = λ frame. omega arith;
       sameHeader = λ n frame rest fits. refl;
       keeps = λ n frame rest ok fits count some small.
           record {
@@ -156,7 +160,14 @@ module _ (h : ℕ) (frame rest : List ℕ) (fits : h ≤ length frame) where
       List·getD-append (take h frame) rest 0 j (omega arith) ∙ getD-take h frame j 0 l
 
 tm-lawful : Lawful tm
-tm-lawful = record { long = λ n s. refl; other = λ n s j p q. refl; sameHeader = λ n frame rest fits. refl; keeps = go }
+tm-lawful =
+    record {
+      long = λ n s. refl;
+      other = λ n s j p q. refl;
+      counted = λ frame. omega arith;
+      sameHeader = λ n frame rest fits. refl;
+      keeps = go;
+    }
   where
     go : (n : ℕ) (frame rest : List ℕ) → tm .rules frame ≡ true → 6 ≤ length frame
         → length (built tm n frame rest) ≡ n → 0 < n → n ≤ 2048 → Kept tm frame (built tm n frame rest)
@@ -175,7 +186,14 @@ tm-lawful = record { long = λ n s. refl; other = λ n s j p q. refl; sameHeader
         }
 
 aos-lawful : Lawful aos
-aos-lawful = record { long = λ n s. refl; other = λ n s j p q. refl; sameHeader = λ n frame rest fits. refl; keeps = go }
+aos-lawful =
+    record {
+      long = λ n s. refl;
+      other = λ n s j p q. refl;
+      counted = λ frame. omega arith;
+      sameHeader = λ n frame rest fits. refl;
+      keeps = go;
+    }
   where
     go : (n : ℕ) (frame rest : List ℕ) → aos .rules frame ≡ true → 6 ≤ length frame
         → length (built aos n frame rest) ≡ n → 0 < n → n ≤ 2048 → Kept aos frame (built aos n frame rest)
@@ -199,6 +217,7 @@ none-lawful =
     record {
       long = λ n s. refl;
       other = λ n s j p q. refl;
+      counted = λ frame. omega arith;
       sameHeader = λ n frame rest fits. refl;
       keeps = λ n frame rest ok fits count some small. let z : _≡_ {A = ℕ} 0 1 = cc in absurd (omega arith);
     }
@@ -210,8 +229,34 @@ lawful-named (answer.Kind kind.Tm) = tm-lawful
 lawful-named (answer.Kind kind.Aos) = aos-lawful
 lawful-named answer.Nothing = none-lawful
 
-pub lawful-kind : (k : code.Kind) → Lawful (kindIs k)
-lawful-kind k = lawful-named (answer.Kind k)
+-- ---- with a check field: the header is the kind's, and nothing in it says how long the trailer then is
 
-pub lawful : (number : ℕ) → Lawful (kindOf number)
-lawful number = lawful-named (named number)
+both-true : (a b : Bool) → (a && b) ≡ true → (a ≡ true) × (b ≡ true)
+both-true true b e = (refl, e)
+both-true false b e = let z : _≡_ {A = ℕ} 0 1 = cc in absurd (omega arith)
+
+module _ (present : Bool) (k : Kind) (law : Lawful k) where
+  keeps-with : (n : ℕ) (frame rest : List ℕ) → withCheckField present k .rules frame ≡ true → k .header frame ≤ length frame
+      → length (built k n frame rest) ≡ n → 0 < n → n ≤ k .largest → Kept (withCheckField present k) frame (built k n frame rest)
+  keeps-with n frame rest ok fits count some small =
+      let kept : (k .rules frame ≡ true) × (not present || k .mayEndInField ≡ true) = both-true (k .rules frame) (not present || k .mayEndInField) ok in
+      let same : Kept k frame (built k n frame rest) = law .keeps n frame rest (kept .0) fits count some small in
+      record {
+        rules = rw (same .rules) (kept .1);
+        lengthOk = same .lengthOk;
+        header = same .header;
+        trailer = ap (λ (f : ℕ). f + checkFieldLength present) (same .trailer);
+        spacecraft = same .spacecraft;
+        channel = same .channel;
+        map = same .map;
+      }
+
+  lawful-with : Lawful (withCheckField present k)
+  lawful-with =
+      record { long = law .long; other = law .other; counted = λ frame. omega arith; sameHeader = law .sameHeader; keeps = keeps-with }
+
+pub lawful-framed : (framing : Framing) → Lawful (framed framing)
+lawful-framed framing = lawful-with (framing .field) (kindIs (framing .kind)) (lawful-named (answer.Kind (framing .kind)))
+
+pub lawful : (present : Bool) (number : ℕ) → Lawful (withCheckField present (kindOf number))
+lawful present number = lawful-with present (kindOf number) (lawful-named (named number))

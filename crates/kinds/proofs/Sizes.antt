@@ -1,9 +1,11 @@
 -- Header and trailer of every kind are short, so that no sum of lengths wraps.
 -- Assumes nothing.
-use Prim.Native.Nat.{ℕ, _≤_, _<_}
+use Prim.Native.Nat.{ℕ, _+_, _≤_, _<_}
+use mathlib.Core.Bool.{Bool, true, false}
 use mathlib.Core.List.{List}
 use native.Mathlib.Omega.{arith}
-use Rattle.kinds.specs.Kinds.{kindIs}
+use Rattle.kinds.specs.Kinds.{kindIs, checkFieldLength, framed}
+use Rattle.kinds.specs.declared.framing.Framing.{Framing}
 use Rattle.kinds.specs.declared.kinds.Kind.{Kind}
 use Rattle.kinds.specs.declared.kinds.Kind.the-variants as kind
 
@@ -17,11 +19,19 @@ header-most kind.Aos frame = omega arith
 pub header-short : (k : Kind) (frame : List ℕ) → kindIs k .header frame < 256
 header-short k frame = let h = header-most k frame in omega arith
 
-pub trailer-short : (k : Kind) (frame : List ℕ) → kindIs k .trailer frame < 256
-trailer-short kind.Tc frame = omega arith
-trailer-short kind.SegmentedTc frame = omega arith
-trailer-short kind.Tm frame = omega arith
-trailer-short kind.Aos frame = omega arith
+-- the longest trailer is the operational control field
+trailer-most : (k : Kind) (frame : List ℕ) → kindIs k .trailer frame ≤ 4
+trailer-most kind.Tc frame = omega arith
+trailer-most kind.SegmentedTc frame = omega arith
+trailer-most kind.Tm frame = omega arith
+trailer-most kind.Aos frame = omega arith
+
+pub trailer-short : (framing : Framing) (frame : List ℕ) → framed framing .trailer frame < 256
+trailer-short framing frame = by-presence (framing .kind) (framing .field)
+  where
+    by-presence : (k : Kind) (present : Bool) → kindIs k .trailer frame + checkFieldLength present < 256
+    by-presence k true = omega (arith, trailer-most k frame)
+    by-presence k false = omega (arith, trailer-most k frame)
 
 -- no frame is larger than 2,048 octets
 pub largest-most : (k : Kind) → kindIs k .largest ≤ 2048

@@ -1,14 +1,15 @@
--- Document 01, 'Frames' and 'The image', and document 02, request 1: the frame kinds. Everything that the papers say of one kind stands in
--- its record, and nothing else names a kind's numbers.
+-- Document 01, 'Frames' and 'The image', and document 02, requests 1 and 4: the frame kinds. Everything that the papers say of one kind
+-- stands in its record, and nothing else names a kind's numbers.
 -- Assumes nothing.
-use Prim.Native.Nat.{ℕ}
-use mathlib.Core.Bool.{Bool, true, false, cond}
+use Prim.Native.Nat.{ℕ, _+_}
+use mathlib.Core.Bool.{Bool, true, false, _&&_, _||_, not, cond}
 use mathlib.Core.List.{List}
 use lib.Dec.{eqb, ltb}
 use Rattle.headers.specs.Aos.{aosRules}
 use Rattle.headers.specs.Fields.{tcSpacecraft, tcChannel, segmentMap, tmSpacecraft, tmChannel, aosSpacecraft, aosChannel}
 use Rattle.headers.specs.Telecommand.{tcRules, tcLengthOk, tcHoldsLength, tcWithLength}
 use Rattle.headers.specs.Telemetry.{tmRules, tmTrailer}
+use Rattle.kinds.specs.declared.framing.Framing.{Framing}
 use Rattle.kinds.specs.declared.kinds.Kind as code
 use Rattle.kinds.specs.declared.kinds.Kind.the-variants as kind
 use Rattle.kinds.specs.declared.kinds.Named.{Named}
@@ -23,6 +24,9 @@ pub record Kind : Type 0 where
   pub header : List ℕ → ℕ
   pub trailer : List ℕ → ℕ
   pub largest : ℕ
+  -- whether frames may end in a check field, and whether these do
+  pub mayEndInField : Bool
+  pub endsInField : Bool
   -- the octets of the header that the mask covers, whatever the frame
   pub underMask : ℕ
   -- whether the length field is right; whether octets reach over it; and a header, or a frame, with the field rewritten for a frame of n octets
@@ -47,6 +51,8 @@ telecommand h map most =
       header = λ frame. h;
       trailer = λ frame. 0;
       largest = 1024;
+      mayEndInField = true;
+      endsInField = false;
       underMask = h;
       lengthOk = tcLengthOk;
       holdsLength = tcHoldsLength;
@@ -75,6 +81,8 @@ tm =
       header = λ frame. 6;
       trailer = tmTrailer;
       largest = 2048;
+      mayEndInField = true;
+      endsInField = false;
       underMask = 6;
       lengthOk = λ frame. true;
       holdsLength = λ s. false;
@@ -96,6 +104,8 @@ aos =
       header = λ frame. 6;
       trailer = λ frame. 0;
       largest = 2048;
+      mayEndInField = false;
+      endsInField = false;
       underMask = 6;
       lengthOk = λ frame. true;
       holdsLength = λ s. false;
@@ -117,6 +127,8 @@ noKind =
       header = λ frame. 0;
       trailer = λ frame. 0;
       largest = 0;
+      mayEndInField = false;
+      endsInField = false;
       underMask = 0;
       lengthOk = λ frame. false;
       holdsLength = λ s. false;
@@ -161,3 +173,35 @@ kindBehind answer.Nothing = noKind
 
 abbrev pub kindOf : ℕ → Kind
 kindOf number = kindBehind (named number)
+
+-- ---- with a check field, where the caller says that frames end in one
+
+-- its octets
+abbrev pub checkFieldLength : Bool → ℕ
+checkFieldLength present = cond present 2 0
+
+-- f grows by them, and a frame of a kind that may not end in a field keeps no rule; all else is the kind's
+abbrev pub withCheckField : Bool → Kind → Kind
+withCheckField present k =
+    record {
+      rules = λ frame. k .rules frame && (not present || k .mayEndInField);
+      header = k .header;
+      trailer = λ frame. k .trailer frame + checkFieldLength present;
+      largest = k .largest;
+      mayEndInField = k .mayEndInField;
+      endsInField = present;
+      underMask = k .underMask;
+      lengthOk = k .lengthOk;
+      holdsLength = k .holdsLength;
+      withLength = k .withLength;
+      spacecraft = k .spacecraft;
+      channel = k .channel;
+      map = k .map;
+      mostSpacecraft = k .mostSpacecraft;
+      mostChannel = k .mostChannel;
+      mostMap = k .mostMap;
+    }
+
+-- as the code says both
+abbrev pub framed : Framing → Kind
+framed framing = withCheckField (framing .field) (kindIs (framing .kind))

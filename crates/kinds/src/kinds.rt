@@ -72,7 +72,7 @@ impl Kind {
         }
     }
 
-    // f of the paper.
+    // f of the paper, but for a check field.
     pub fn trailer_length(self, frame: &[u8]) -> usize
         ensures { λ r. ⌜ r ≡ kindIs self .trailer (now (frame .entry)) ⌝ }
     {
@@ -104,6 +104,18 @@ impl Kind {
             Kind::SegmentedTc => 1024,
             Kind::Tm => 2048,
             Kind::Aos => 2048,
+        }
+    }
+
+    // Whether a check field may stand at the end.
+    pub fn may_end_in_field(self) -> bool
+        ensures { λ r. ⌜ r ≡ kindIs self .mayEndInField ⌝ }
+    {
+        match self {
+            Kind::Tc => true,
+            Kind::SegmentedTc => true,
+            Kind::Tm => true,
+            Kind::Aos => false,
         }
     }
 

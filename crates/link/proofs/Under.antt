@@ -5,8 +5,8 @@ use Prim.Native.Nat.{ℕ, _+_}
 use mathlib.Core.Path.{_≡_, refl, sym, ap, ap₂, _∙_}
 use mathlib.Core.Bool.{Bool, true, false}
 use mathlib.Core.List.{List, []}
-use Rattle.kinds.specs.Kinds.{Kind, kindIs}
-use Rattle.kinds.specs.declared.kinds.Kind as code
+use Rattle.kinds.specs.Kinds.{Kind, framed}
+use Rattle.kinds.specs.declared.framing.Framing.{Framing}
 use Rattle.image.specs.Image.{bodyOf, keyOf}
 use Rattle.association.specs.Association.{Association, associationOf, held, heldIn, theOne, indexOf}
 use Rattle.association.specs.Numbers.{numberOf}
@@ -44,10 +44,10 @@ module _ (image last : List ℕ) (i : ℕ) where
         → sendingJudged image i h l k frame room ≡ judgement (sendingReply image last i k spi frame room)
     sending-judged k spi frame room = rw (eh, el, held-under, number-under)
 
-    pub receiving-judged : (kind : code.Kind) (frame : List ℕ) (room : ℕ) (o : Opening) → o ≡ openingOf kind h frame
-        → receivingJudged image i (o .held) l (kindIs (o .kind)) frame room
-        ≡ judgement (receivingReply image last i (kindIs kind) frame room)
-    receiving-judged kind frame room o eo = rw (eo, eh, el, held-under, number-under)
+    pub receiving-judged : (framing : Framing) (frame : List ℕ) (room : ℕ) (o : Opening) → o ≡ openingOf framing h frame
+        → receivingJudged image i (o .held) l (framed (o .framing)) frame room
+        ≡ judgement (receivingReply image last i (framed framing) frame room)
+    receiving-judged framing frame room o eo = rw (eo, eh, el, held-under, number-under)
 
 -- ---- past the tests that come first, or refused by them
 
@@ -78,10 +78,10 @@ module _ (image last : List ℕ) (said : Said) (spi : ℕ) (frame : List ℕ) (r
   abbrev decided : Association → Kind → ℕ
   decided a k = first (sendingTests (heldIn a) (a .number) k frame room)
 
-  pub securing-under : (k : code.Kind) (e : ℕ) → Admits image last (securingWants said spi frame) said false frame k e
-      → sendingReply image last e (kindIs k) spi frame room ≡ securingReply image last said spi frame room
+  pub securing-under : (framing : Framing) (e : ℕ) → Admits image last (securingWants said spi frame) said false frame framing e
+      → sendingReply image last e (framed framing) spi frame room ≡ securingReply image last said spi frame room
   unfolding securingReply securing securingTests sent
-  securing-under k e r =
+  securing-under framing e r =
       let f = finds-at image last (securingWants said spi frame) e (r .entry) in
       let see : theOne (sends .found) ≡ associationOf image last e = saw-one image last (securingWants said spi frame) e f in
       let front = fronted sends (kindSaid said) frame false [] (r .answer) .0 in
@@ -114,10 +114,10 @@ module _ (image last : List ℕ) (said : Said) (frame : List ℕ) (room : ℕ) w
   abbrev judged : Association → Kind → ℕ
   judged a k = first (receivingTests (heldIn a) (a .number) (macRight (heldIn a) k frame) k frame room)
 
-  pub checking-under : (k : code.Kind) (e : ℕ) → Admits image last (checkingWants said frame) said true frame k e
-      → receivingReply image last e (kindIs k) frame room ≡ checkingReply right image last said frame room
+  pub checking-under : (framing : Framing) (e : ℕ) → Admits image last (checkingWants said frame) said true frame framing e
+      → receivingReply image last e (framed framing) frame room ≡ checkingReply right image last said frame room
   unfolding checkingReply checking checkingTests comparison received
-  checking-under k e r =
+  checking-under framing e r =
       let f = finds-at image last (checkingWants said frame) e (r .entry) in
       let see : theOne (checks .found) ≡ associationOf image last e = saw-one image last (checkingWants said frame) e f in
       let front = fronted checks (kindSaid said) frame true [] (r .answer) .0 in

@@ -7,7 +7,7 @@ use association::held_at;
 use judging::Grant;
 use judging::Verdict;
 use judging::judge_receiving;
-use kinds::Kind;
+use kinds::Framing;
 use marks::make_all;
 use protection::Opening;
 use protection::opening_of;
@@ -17,7 +17,7 @@ ghost use mathlib.Core.Bool.{true};
 ghost use Prim.Native.Nat.{_≤_};
 ghost use lib.ListN.{length, set};
 ghost use Rattle.octets.specs.Output.{written};
-ghost use Rattle.kinds.specs.Kinds.{kindIs};
+ghost use Rattle.kinds.specs.Kinds.{framed};
 ghost use Rattle.frame.specs.Rules.{obeys};
 ghost use Rattle.marks.specs.Stores.{storesIn};
 ghost use Rattle.protection.specs.Protection.{clearData, clearLength};
@@ -36,9 +36,9 @@ fn release(
     output: &mut [u8],
 ) -> Outcome
     requires { ⌜ made ≡ storesIn (grant .plan) ⌝ }
-    requires { ⌜ Opens opening (now frame) × (clearLength (opening .held) (kindIs (opening .kind)) (now frame) ≤ length (now output)) ⌝ }
+    requires { ⌜ Opens opening (now frame) × (clearLength (opening .held) (framed (opening .framing)) (now frame) ≤ length (now output)) ⌝ }
     ensures { λ r. ⌜ (reported (r .answer) ≡ granted (grant .size) (storesIn (grant .plan))) × (r .numbers .last ≡ set (numbers .last) (grant .entry) (grant .number)) ⌝ }
-    ensures { λ _. ⌜ now (output .exit) ≡ written (clearData (opening .held) (kindIs (opening .kind)) (now (frame .entry))) (now (output .entry)) ⌝ }
+    ensures { λ _. ⌜ now (output .exit) ≡ written (clearData (opening .held) (framed (opening .framing)) (now (frame .entry))) (now (output .entry)) ⌝ }
 {
     release_data(opening, frame, output);
     carried_out(grant, made, numbers)
@@ -48,16 +48,16 @@ fn release(
 pub(crate) fn check_under(
     image: &mut [u8],
     numbers: Numbers,
-    kind: Kind,
+    framing: Framing,
     entry: u8,
     frame: &[u8],
     output: &mut [u8],
 ) -> Outcome
-    requires { ⌜ obeys (kindIs kind) (now frame) true ≡ true ⌝ }
-    ensures { λ r. ⌜ leaving r (now (image .exit)) (now (output .exit)) ≡ left (receivingReply (now (image .entry)) (numbers .last) entry (kindIs kind) (now (frame .entry)) (length (now (output .entry)))) (now (image .entry)) (numbers .last) (now (output .entry)) ⌝ }
+    requires { ⌜ obeys (framed framing) (now frame) true ≡ true ⌝ }
+    ensures { λ r. ⌜ leaving r (now (image .exit)) (now (output .exit)) ≡ left (receivingReply (now (image .entry)) (numbers .last) entry (framed framing) (now (frame .entry)) (length (now (output .entry)))) (now (image .entry)) (numbers .last) (now (output .entry)) ⌝ }
 {
     let held = held_at(image, entry);
-    let opening = opening_of(kind, held, frame);
+    let opening = opening_of(framing, held, frame);
     let last = numbers.of(entry);
     let verdict = judge_receiving(image, entry, last, opening, frame, output.len());
     match verdict {

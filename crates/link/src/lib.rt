@@ -37,39 +37,45 @@ pub fn load(image: &[u8], numbers: Numbers) -> Outcome
     }
 }
 
-// The secured frame of a clear one to the front of the output, under the association that the SPI names.
+// The secured frame of a clear one to the front of the output, under the association that the SPI names. `field` says whether the clear
+// frame ends in a check field, and so the secured one.
 pub fn secure(
     image: &mut [u8],
     numbers: Numbers,
     kind: u8,
+    field: bool,
     spi: u16,
     frame: &[u8],
     output: &mut [u8],
 ) -> Outcome
-    ensures { λ r. ⌜ leaving r (now (image .exit)) (now (output .exit)) ≡ secured (now (image .entry)) (numbers .last) (saying kind) spi (now (frame .entry)) (now (output .entry)) ⌝ }
+    ensures { λ r. ⌜ leaving r (now (image .exit)) (now (output .exit)) ≡ secured (now (image .entry)) (numbers .last) (saying kind field) spi (now (frame .entry)) (now (output .entry)) ⌝ }
 {
-    let admission = admit_sending(image, numbers, kind, spi, frame);
+    let admission = admit_sending(image, numbers, kind, field, spi, frame);
     match admission {
         Admission::Refused(answer) => refused(answer, numbers),
-        Admission::To(kind, entry) => {
-            secure_under(image, numbers, kind, entry, spi, frame, output)
+        Admission::To(framing, entry) => {
+            secure_under(image, numbers, framing, entry, spi, frame, output)
         }
     }
 }
 
-// The clear data of a secured frame to the front of the output, under the association that the frame's SPI names.
+// The clear data of a secured frame to the front of the output, under the association that the frame's SPI names. `field` says whether the
+// frame ends in a check field.
 pub fn check(
     image: &mut [u8],
     numbers: Numbers,
     kind: u8,
+    field: bool,
     frame: &[u8],
     output: &mut [u8],
 ) -> Outcome
-    ensures { λ r. ⌜ leaving r (now (image .exit)) (now (output .exit)) ≡ checked (now (image .entry)) (numbers .last) (saying kind) (now (frame .entry)) (now (output .entry)) ⌝ }
+    ensures { λ r. ⌜ leaving r (now (image .exit)) (now (output .exit)) ≡ checked (now (image .entry)) (numbers .last) (saying kind field) (now (frame .entry)) (now (output .entry)) ⌝ }
 {
-    let admission = admit_receiving(image, numbers, kind, frame);
+    let admission = admit_receiving(image, numbers, kind, field, frame);
     match admission {
         Admission::Refused(answer) => refused(answer, numbers),
-        Admission::To(kind, entry) => check_under(image, numbers, kind, entry, frame, output),
+        Admission::To(framing, entry) => {
+            check_under(image, numbers, framing, entry, frame, output)
+        }
     }
 }

@@ -8,14 +8,14 @@ use association::held_at;
 use judging::Grant;
 use judging::Verdict;
 use judging::judge_sending;
-use kinds::Kind;
+use kinds::Framing;
 use marks::make_all;
 use protection::write_secured;
 ghost use mathlib.Core.Path.{_≡_};
 ghost use mathlib.Core.Bool.{true, false};
 ghost use lib.ListN.{length, set};
 ghost use Rattle.octets.specs.Output.{written};
-ghost use Rattle.kinds.specs.Kinds.{kindIs};
+ghost use Rattle.kinds.specs.Kinds.{framed};
 ghost use Rattle.frame.specs.Rules.{obeys};
 ghost use Rattle.marks.specs.Stores.{storesIn};
 ghost use Rattle.protection.specs.Protection.{securedFrame};
@@ -29,18 +29,18 @@ fn hand_out(
     grant: Grant,
     made: u32,
     numbers: Numbers,
-    kind: Kind,
+    framing: Framing,
     held: Held,
     spi: u16,
     frame: &[u8],
     output: &mut [u8],
 ) -> Outcome
     requires { ⌜ made ≡ storesIn (grant .plan) ⌝ }
-    requires { ⌜ Securable held (kindIs kind) (now frame) (length (now output)) ⌝ }
+    requires { ⌜ Securable held (framed framing) (now frame) (length (now output)) ⌝ }
     ensures { λ r. ⌜ (reported (r .answer) ≡ granted (grant .size) (storesIn (grant .plan))) × (r .numbers .last ≡ set (numbers .last) (grant .entry) (grant .number)) ⌝ }
-    ensures { λ _. ⌜ now (output .exit) ≡ written (securedFrame held (kindIs kind) spi (grant .number) (now (frame .entry))) (now (output .entry)) ⌝ }
+    ensures { λ _. ⌜ now (output .exit) ≡ written (securedFrame held (framed framing) spi (grant .number) (now (frame .entry))) (now (output .entry)) ⌝ }
 {
-    write_secured(kind, held, spi, grant.number, frame, output);
+    write_secured(framing, held, spi, grant.number, frame, output);
     carried_out(grant, made, numbers)
 }
 
@@ -48,24 +48,24 @@ fn hand_out(
 pub(crate) fn secure_under(
     image: &mut [u8],
     numbers: Numbers,
-    kind: Kind,
+    framing: Framing,
     entry: u8,
     spi: u16,
     frame: &[u8],
     output: &mut [u8],
 ) -> Outcome
-    requires { ⌜ obeys (kindIs kind) (now frame) false ≡ true ⌝ }
-    ensures { λ r. ⌜ leaving r (now (image .exit)) (now (output .exit)) ≡ left (sendingReply (now (image .entry)) (numbers .last) entry (kindIs kind) spi (now (frame .entry)) (length (now (output .entry)))) (now (image .entry)) (numbers .last) (now (output .entry)) ⌝ }
+    requires { ⌜ obeys (framed framing) (now frame) false ≡ true ⌝ }
+    ensures { λ r. ⌜ leaving r (now (image .exit)) (now (output .exit)) ≡ left (sendingReply (now (image .entry)) (numbers .last) entry (framed framing) spi (now (frame .entry)) (length (now (output .entry)))) (now (image .entry)) (numbers .last) (now (output .entry)) ⌝ }
 {
     let held = held_at(image, entry);
     let last = numbers.of(entry);
-    let verdict = judge_sending(image, entry, held, last, kind, frame, output.len());
+    let verdict = judge_sending(image, entry, held, last, framing, frame, output.len());
     match verdict {
         Verdict::Refused(answer) => refused(answer, numbers),
         Verdict::Granted(grant) => {
             let plan = grant.plan;
             let made = make_all(image, plan);
-            hand_out(grant, made, numbers, kind, held, spi, frame, output)
+            hand_out(grant, made, numbers, framing, held, spi, frame, output)
         }
     }
 }

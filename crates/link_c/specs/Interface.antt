@@ -3,13 +3,13 @@
 -- Assumes nothing.
 use Prim.Native.Nat.{ℕ, _+_, _*_, _/_, _%_, _^_}
 use mathlib.Core.Path.{_≡_}
-use mathlib.Core.Bool.{cond}
+use mathlib.Core.Bool.{not, cond}
 use mathlib.Core.List.{List, []}
 use lib.Dec.{eqb}
 use lib.ListN.{length}
 use Rattle.image.specs.Image.{validImage}
 use Rattle.link.specs.Calls.{Left, refused, loaded, secured, checked}
-use Rattle.judging.specs.Said.{Said}
+use Rattle.judging.specs.Said.{Said, saying}
 
 -- ---- the returned number: bits 0 to 31 hold the length of the result, 32 to 39 the stores, 40 to 47 the answer's number
 
@@ -25,6 +25,11 @@ pub record Unpacked (x : Left) : Type 0 where
   pub answer : packed x / 2 ^ 40 ≡ x .answer
   pub stores : packed x / 2 ^ 32 % 2 ^ 8 ≡ x .stores
   pub length : packed x % 2 ^ 32 ≡ x .length
+
+-- ---- what C says of a frame: its kind, and by any number but 0 that a check field ends it
+
+abbrev pub told : ℕ → ℕ → Said
+told kind field = saying kind (not (eqb field 0))
 
 -- ---- the calls
 

@@ -10,8 +10,7 @@ use packing::pack;
 ghost use mathlib.Core.List.{[]};
 ghost use mathlib.Core.Path.{_≡_};
 ghost use Rattle.association.specs.Stores.{storesMade, afterStores};
-ghost use Rattle.judging.specs.Said.{saying};
-ghost use Rattle.link_c.specs.Interface.{Returned, loadCall, secureCall, checkCall};
+ghost use Rattle.link_c.specs.Interface.{Returned, told, loadCall, secureCall, checkCall};
 
 // A restart.
 #[no_mangle]
@@ -27,22 +26,32 @@ pub extern "C" fn xistalvo_load(image: &[u8], numbers: &mut [u32]) -> u64
     pack(answer)
 }
 
-// The secured frame of a clear one, to the front of the output.
+// The secured frame of a clear one, to the front of the output. `field` is a number, 0 for no check field, as C has no other truth that is defined
+// for every octet.
 #[no_mangle]
 pub extern "C" fn xistalvo_secure(
     image: &mut [u8],
     numbers: &mut [u32],
     kind: u8,
+    field: u8,
     spi: u16,
     frame: &[u8],
     output: &mut [u8],
 ) -> u64
-    ensures { λ r. ⌜ Returned (secureCall (now (image .entry)) (now (numbers .entry)) (saying kind) spi (now (frame .entry)) (now (output .entry))) r (now (image .exit)) (now (numbers .exit)) (now (output .exit)) ⌝ }
+    ensures { λ r. ⌜ Returned (secureCall (now (image .entry)) (now (numbers .entry)) (told kind field) spi (now (frame .entry)) (now (output .entry))) r (now (image .exit)) (now (numbers .exit)) (now (output .exit)) ⌝ }
 {
     if numbers.len() != 32 {
         return refuse_count(image);
     }
-    let outcome = link::secure(image, numbers_in(numbers), kind, spi, frame, output);
+    let outcome = link::secure(
+        image,
+        numbers_in(numbers),
+        kind,
+        field != 0,
+        spi,
+        frame,
+        output,
+    );
     let answer = outcome.answer;
     hand_back(outcome.numbers, numbers);
     pack(answer)
@@ -54,15 +63,16 @@ pub extern "C" fn xistalvo_check(
     image: &mut [u8],
     numbers: &mut [u32],
     kind: u8,
+    field: u8,
     frame: &[u8],
     output: &mut [u8],
 ) -> u64
-    ensures { λ r. ⌜ Returned (checkCall (now (image .entry)) (now (numbers .entry)) (saying kind) (now (frame .entry)) (now (output .entry))) r (now (image .exit)) (now (numbers .exit)) (now (output .exit)) ⌝ }
+    ensures { λ r. ⌜ Returned (checkCall (now (image .entry)) (now (numbers .entry)) (told kind field) (now (frame .entry)) (now (output .entry))) r (now (image .exit)) (now (numbers .exit)) (now (output .exit)) ⌝ }
 {
     if numbers.len() != 32 {
         return refuse_count(image);
     }
-    let outcome = link::check(image, numbers_in(numbers), kind, frame, output);
+    let outcome = link::check(image, numbers_in(numbers), kind, field != 0, frame, output);
     let answer = outcome.answer;
     hand_back(outcome.numbers, numbers);
     pack(answer)

@@ -27,5 +27,6 @@ pub(crate) fn pack(answer: Answer) -> u64
         Answer::OutsideWindow => word(8, 0, 0),
         Answer::NumbersSpent => word(10, 0, 0),
         Answer::TooLong => word(11, 0, 0),
+        Answer::WrongCheckField => word(12, 0, 0),
     }
 }

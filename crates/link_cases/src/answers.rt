@@ -18,6 +18,7 @@ fn number_of(answer: Answer) -> u64 {
         Answer::OutsideWindow => 8,
         Answer::NumbersSpent => 10,
         Answer::TooLong => 11,
+        Answer::WrongCheckField => 12,
     }
 }
 

@@ -30,7 +30,7 @@ pub(crate) fn run_raise(line: &[u8], image: &mut [u8], numbers: Numbers) -> Numb
     numbers
 }
 
-// `secure KIND SPI ROOM FRAME`, or `check KIND ROOM FRAME`, where the SPI stands in the frame.
+// `secure KIND FIELD SPI ROOM FRAME`, or `check KIND FIELD ROOM FRAME`, where the SPI stands in the frame. FIELD is 00 for no check field.
 fn outcome(
     line: &[u8],
     image: &mut [u8],
@@ -39,10 +39,11 @@ fn outcome(
     output: &mut [u8],
 ) -> Outcome {
     let kind = octet(line, 1);
+    let field = octet(line, 2) != 0;
     if octet_at(line, 0) == b's' {
-        return link::secure(image, numbers, kind, two(line, 2), frame, output);
+        return link::secure(image, numbers, kind, field, two(line, 3), frame, output);
     }
-    link::check(image, numbers, kind, frame, output)
+    link::check(image, numbers, kind, field, frame, output)
 }
 
 // Such a line, by the numbers of its fields ROOM, which is the length of the output, at most 4096, and FRAME.

@@ -1,12 +1,12 @@
--- Exclusive-or is associative, undoes itself, and with the or gives nothing only of nothing.
+-- Exclusive-or is associative, undoes itself, takes a bit's product apart, and with the or gives nothing only of nothing.
 -- Assumes nothing.
 use mathlib.Core.Path.{_≡_, refl, sym, ap, ap₂, _∙_}
 use Prim.Native.Nat.{ℕ, zero, suc, _+_, _*_, _/_, _%_, _≤_, _<_}
 use native.Mathlib.Omega.{arith}
-use native.Mathlib.Nat.{mod-lt}
+use native.Mathlib.Nat.{mod-lt, zero-mul}
 use lib.Arith.{bin-ind, digits-mod}
 use lib.Dec.{lit<}
-use lib.Bits.{differ, xor-step, xor-shr, xor-self, xor-zero-r, bitOr, bitAnd, or-add-and, and-le-l, and-le-r}
+use lib.Bits.{differ, xor-step, xor-shr, xor-self, xor-zero-r, xor-comm, bitOr, bitAnd, or-add-and, and-le-l, and-le-r}
 use Rattle.octets.specs.Xor.{_⊕_}
 
 differ-lt : (x y : ℕ) → x < 2 → y < 2 → differ x y < 2
@@ -50,6 +50,21 @@ xor-undo a b = xor-assoc a b b ∙ ap (λ (n : ℕ). a ⊕ n) (xor-self b) ∙ x
 
 pub xor-none : (a b : ℕ) → a ⊕ b ≡ 0 → a ≡ b
 xor-none a b e = sym (xor-undo a b) ∙ ap (λ (n : ℕ). n ⊕ b) e
+
+-- (a + b) + (c + d) = (a + c) + (b + d)
+pub xor-four : (a b c d : ℕ) → (a ⊕ b) ⊕ (c ⊕ d) ≡ (a ⊕ c) ⊕ (b ⊕ d)
+xor-four a b c d =
+    xor-assoc a b (c ⊕ d)
+    ∙ ap (λ (x : ℕ). a ⊕ x) (sym (xor-assoc b c d) ∙ ap (λ (x : ℕ). x ⊕ d) (xor-comm b c) ∙ xor-assoc c b d)
+    ∙ sym (xor-assoc a c (b ⊕ d))
+
+-- a bit times a number, the bit a sum of two
+pub bit-scale : (x y n : ℕ) → x < 2 → y < 2 → differ x y * n ≡ x * n ⊕ y * n
+bit-scale zero y n hx hy = ap (λ (k : ℕ). k ⊕ y * n) (sym (zero-mul n))
+bit-scale (suc x) zero n hx hy = sym (ap (λ (k : ℕ). suc x * n ⊕ k) (zero-mul n) ∙ xor-zero-r (suc x * n))
+bit-scale (suc zero) (suc zero) n hx hy = zero-mul n ∙ sym (xor-self (1 * n))
+bit-scale (suc zero) (suc (suc y)) n hx hy = absurd (omega arith)
+bit-scale (suc (suc x)) (suc y) n hx hy = absurd (omega arith)
 
 pub or-none : (a b : ℕ) → bitOr a b ≡ 0 → (a ≡ 0) × (b ≡ 0)
 or-none a b e =

@@ -15,6 +15,7 @@ use Rattle.octets.specs.Same.{same}
 use Rattle.octets.proofs.Alls.{and-left, and-right}
 use Rattle.octets.proofs.Parts.{length-part}
 use Rattle.octets.proofs.Sameness.{same-refl, same-eq}
+use Rattle.frame.specs.Closing.{fieldOk}
 use Rattle.frame.specs.Parts.{exceeds, tooShort}
 use Rattle.frame.specs.Rules.{least, obeys}
 use Rattle.association.specs.Association.{Association, associationOf, held, heldIn, isNone, theOne, matching, indexOf}
@@ -40,10 +41,10 @@ use Rattle.link.proofs.Leaving.{left-answer}
 use Rattle.judging.proofs.Searches.{Finds, finds, finds-none}
 use Rattle.promises.specs.Answers.{reporting, Rules, rule, noMore, reportOf, Gives, Exactly}
 use Rattle.promises.specs.Answers.{loadRules, securingRules, checkingRules, Answering}
-use Rattle.promises.specs.Frames.{FrameRules, securitySize, spiOn, numberOn, textOn, macOn, rightMac}
+use Rattle.promises.specs.Frames.{FrameRules, RightField, securitySize, spiOn, numberOn, textOn, macOn, rightMac}
 use Rattle.promises.specs.Images.{serviceAt, windowAt, maskAt, keyAt, lastAt, ImageRules, Agreeing, Serves}
 use Rattle.promises.proofs.Fields.{service-at, window-at, mask-at, key-at}
-use Rattle.promises.proofs.Readings.{form, header-size, trailer-size, frame-kept, frame-tested}
+use Rattle.promises.proofs.Readings.{form, header-size, trailer-size, frame-kept, frame-tested, field-kept, field-tested}
 use Rattle.promises.proofs.Readings.{spi-on, security-size, number-on, text-on, mac-right}
 use Rattle.promises.proofs.Refusals.{refusals}
 use Rattle.promises.proofs.Valids.{rules-kept, rules-valid, agreement, agreement-tested, serving, served}
@@ -195,18 +196,20 @@ module _ (image numbers : List ℕ) (octets : Octets image) (direction : ℕ) (s
         ≡ same (rightMac (serviceAt image e) said (maskAt image e) (keyAt image e) frame) (macOn said frame)
     mac = mac-right h said frame (ap length held-mask ∙ length-part _ 6 image) ∙ rw (held-service, held-mask, held-key)
 
-  -- the first four rules, which sending and checking share
+  -- the first five rules, which sending and checking share
   front : (secured : Bool) (behind : Rules) (tests : List Test)
       → (ImageRules image → isNone (matching image numbers w) ≡ false → Numbered behind (first tests))
       → Numbered
       (rule answer.BadImage (ImageRules image)
       (rule answer.BadMarks (Agreeing image numbers)
       (rule answer.BadFrame (FrameRules said frame (least secured))
-      (rule answer.NoEntry ((d : ℕ) × Serves image direction said spi frame d) behind))))
+      (rule answer.WrongCheckField (RightField said frame)
+      (rule answer.NoEntry ((d : ℕ) × Serves image direction said spi frame d) behind)))))
       (first
       ((1, not (validImage image))
       ∷ (2, not (agrees image numbers))
       ∷ (3, not (obeys (kindSaid said) frame secured))
+      ∷ (12, not (fieldOk (kindSaid said) frame))
       ∷ (4, isNone (matching image numbers w))
       ∷ tests))
   front secured behind tests then =
@@ -221,8 +224,11 @@ module _ (image numbers : List ℕ) (octets : Octets image) (direction : ℕ) (s
       (next answer.BadFrame (not (obeys (kindSaid said) frame secured)) _ _ _
       (λ t k. differ _ (frame-tested said frame secured k) (not-true (obeys (kindSaid said) frame secured) t))
       (λ t. frame-kept said frame secured (not-false (obeys (kindSaid said) frame secured) t))
+      (next answer.WrongCheckField (not (fieldOk (kindSaid said) frame)) _ _ _
+      (λ t f. differ _ (field-tested said frame f) (not-true (fieldOk (kindSaid said) frame) t))
+      (λ t. field-kept said frame (not-false (fieldOk (kindSaid said) frame) t))
       (step answer.NoEntry (isNone (matching image numbers w)) tests ((d : ℕ) × Serves image direction said spi frame d) behind nobody
-      (λ t4. ((e, serves rules t4), then rules t4))))
+      (λ t4. ((e, serves rules t4), then rules t4)))))
       in
       (rules, rest))
 
@@ -324,6 +330,7 @@ answering =
             eight = refl;
             ten = refl;
             eleven = refl;
+            twelve = refl;
           };
       loading = λ image numbers octets.
           exactly (loadRules image) (loaded image numbers)

@@ -5,8 +5,11 @@ use Rattle.octets.specs.Lists.{tab, part, all}
 use Rattle.octets.specs.Numbers.{number, bytes}
 use Rattle.octets.specs.Same.{same}
 use Rattle.headers.specs.Telecommand.{tcWithLength}
+use Rattle.check_field.specs.CheckField.{checkFieldOf, checkField, withField, rightField}
+use Rattle.check_field.specs.Polynomials.{remainder}
 use Rattle.kinds.specs.Kinds.{named}
-use Rattle.frame.specs.Parts.{headerOf, trailerOf, clearContent, securityOf, securedContent}
+use Rattle.frame.specs.Closing.{controlOf, closed, fieldOk}
+use Rattle.frame.specs.Parts.{headerOf, clearContent, securityOf, securedContent}
 use Rattle.frame.specs.Rules.{obeys}
 use Rattle.association.specs.Association.{associationOf, held, matching}
 use Rattle.bodies.specs.Body.{bodyIn, bodyOk}
@@ -31,8 +34,13 @@ unfolding trailingZeros tab part all number bytes same
 octets = tt
 
 unfoldable pub frames : Unit {0}
-unfolding named tcWithLength headerOf trailerOf clearContent securityOf securedContent obeys
+unfolding named tcWithLength headerOf clearContent securityOf securedContent obeys
 frames = tt
+
+-- the check field, where a frame is short enough for it
+unfoldable pub closings : Unit {0}
+unfolding remainder checkFieldOf checkField withField rightField controlOf closed fieldOk
+closings = tt
 
 -- in the promises' words
 unfoldable pub forms : Unit {0}
@@ -61,5 +69,5 @@ unfolding imageWith securedC clearTc room
 examples = tt
 
 unfoldable pub everything : Unit {0}
-unfolding octets frames forms images associations replies calls examples
+unfolding octets frames closings forms images associations replies calls examples
 everything = tt

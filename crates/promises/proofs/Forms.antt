@@ -29,6 +29,7 @@ pub record Describes (f : Form) (k : Kind) : Type 0 where
   pub header : (frame : List ℕ) → f .header frame ≡ k .header frame
   pub trailer : (frame : List ℕ) → f .trailer frame ≡ k .trailer frame
   pub largest : f .largest ≡ k .largest
+  pub ending : f .mayEndInField ≡ k .mayEndInField
   -- the header that goes out
   pub copied : (n : ℕ) (clear : List ℕ) (j : ℕ) → n ≤ k .largest → k .header clear ≤ length clear → j < k .header clear
       → octet (k .withLength n (take (k .header clear) clear)) j ≡ f .securedOctet n clear j
@@ -103,6 +104,7 @@ tc-describes h most map five six =
       header = λ frame. refl;
       trailer = λ frame. refl;
       largest = refl;
+      ending = refl;
       copied = λ n clear j small fits below. tc-copied h n clear five small fits j below;
       spacecraft = λ frame. refl;
       channel = λ frame. refl;
@@ -127,6 +129,7 @@ tm-describes =
       header = λ frame. refl;
       trailer = λ frame. refl;
       largest = refl;
+      ending = refl;
       copied = λ n clear j small fits below. getD-take 6 clear j 0 below;
       spacecraft = λ frame. refl;
       channel = λ frame. refl;
@@ -145,6 +148,7 @@ aos-describes =
       header = λ frame. refl;
       trailer = λ frame. refl;
       largest = refl;
+      ending = refl;
       copied = λ n clear j small fits below. getD-take 6 clear j 0 below;
       spacecraft = λ frame. refl;
       channel = λ frame. refl;
@@ -163,6 +167,7 @@ none-describes =
       header = λ frame. refl;
       trailer = λ frame. refl;
       largest = refl;
+      ending = refl;
       copied = λ n clear j small fits below. absurd (omega arith);
       spacecraft = λ frame. refl;
       channel = λ frame. refl;

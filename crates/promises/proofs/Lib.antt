@@ -8,6 +8,7 @@ pub mod Isolation
 pub mod Keeps
 pub mod Leaves
 pub mod NoPadding
+pub mod OneBit
 pub mod Readings
 pub mod Refusals
 pub mod Released

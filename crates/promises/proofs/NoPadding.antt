@@ -43,11 +43,12 @@ never-nine =
           (other 1 _ (λ e. omega arith)
           (other 2 _ (λ e. omega arith)
           (other 3 _ (λ e. omega arith)
+          (other 12 _ (λ e. omega arith)
           (other 4 _ (λ e. omega arith)
           (other 5 _ (λ e. omega arith)
           (other 6 _ (λ e. omega arith)
           (other 7 _ (λ e. omega arith)
           (other 8 _ (λ e. omega arith)
-          none))))))))
+          none)))))))))
           (sym (left-answer reply image numbers output) ∙ nine);
     }

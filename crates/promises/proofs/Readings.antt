@@ -2,18 +2,24 @@
 -- read in its octets: the kind's record described with its form.
 -- Assumes nothing.
 use Prim.Native.Nat.{ℕ, _+_, _-_}
-use mathlib.Core.Path.{_≡_, refl, ap, _∙_}
-use mathlib.Core.Bool.{Bool, true, false, cond}
+use mathlib.Core.Path.{_≡_, refl, sym, ap, ap₂, _∙_}
+use mathlib.Core.Bool.{Bool, true, false, _&&_, _||_, not, cond}
 use mathlib.Core.List.{List, _++_}
 use native.Mathlib.Omega.{arith}
 use lib.Dec.{eqb}
 use lib.ListN.{length, take, drop, length-take}
 use lib.Seq.{slice}
-use Rattle.octets.specs.Numbers.{numberAt}
+use Rattle.octets.specs.Numbers.{numberAt, bytes}
 use Rattle.octets.specs.Same.{same}
+use Rattle.octets.proofs.Alls.{and-left, and-right}
+use Rattle.octets.proofs.Sameness.{same-refl, same-eq}
+use Rattle.check_field.specs.CheckField.{checkField, rightField}
+use Rattle.check_field.proofs.Laws.{field-take}
+use Rattle.kinds.specs.Kinds.{kindOf}
 use Rattle.cmac.specs.Mac.{cmac}
 use Rattle.gcm.specs.Decryption.{plaintext}
 use Rattle.gcm.specs.Encryption.{ciphertext, tag}
+use Rattle.frame.specs.Closing.{controlOf, fieldOk}
 use Rattle.frame.specs.Masked.{masked}
 use Rattle.frame.specs.Parts.{headerOf, clearContent, securityOf, securedContent, macOf}
 use Rattle.frame.specs.Rules.{least, obeys}
@@ -25,30 +31,43 @@ use Rattle.services.specs.Services.{authentication, authenticatedEncryption, se
 use Rattle.judging.specs.Said.{Said, kindSaid}
 use Rattle.protection.proofs.Wire.{number-read}
 use Rattle.promises.specs.Forms.{formSaid, underMask}
-use Rattle.promises.specs.Frames.{headerSize, trailerSize, dataInClear, fieldSize, securitySize, spiOn, fieldOn, numberOn}
-use Rattle.promises.specs.Frames.{textOn, macOn, goingOut, comingIn, rightMac, FrameRules}
+use Rattle.promises.specs.Frames.{headerSize, checkFieldSize, trailerSize, beforeField, controlOn, dataInClear, fieldSize, securitySize, spiOn, fieldOn, numberOn}
+use Rattle.promises.specs.Frames.{textOn, macOn, goingOut, comingIn, rightMac, FrameRules, RightField}
 use Rattle.promises.proofs.Forms.{Describes, described, under-mask}
 
 -- ---- header and trailer, and the rules of a frame, answer 3
 
+-- whether a check field is absent or may be there
+abbrev may : Said → Bool
+may said = not (said .checkField) || kindOf (said .kind) .mayEndInField
+
+present-so : (present allowed : Bool) → (not present || allowed) ≡ true → present ≡ true → allowed ≡ true
+present-so true allowed e p = e
+present-so false allowed e p = let z : _≡_ {A = ℕ} 0 1 = cc in absurd (omega arith)
+
+allowed-so : (present allowed : Bool) → (present ≡ true → allowed ≡ true) → (not present || allowed) ≡ true
+allowed-so true allowed h = h refl
+allowed-so false allowed h = refl
+
 module _ (said : Said) where
-  pub form : Describes (formSaid said) (kindSaid said)
+  pub form : Describes (formSaid said) (kindOf (said .kind))
   form = described (said .kind)
 
   pub header-size : (frame : List ℕ) → headerSize said frame ≡ kindSaid said .header frame
   header-size = form .header
 
   pub trailer-size : (frame : List ℕ) → trailerSize said frame ≡ kindSaid said .trailer frame
-  trailer-size = form .trailer
+  trailer-size frame = ap (λ (f : ℕ). f + checkFieldSize said) (form .trailer frame)
 
   module _ (frame : List ℕ) (secured : Bool) where
     pub frame-kept : obeys (kindSaid said) frame secured ≡ true → FrameRules said frame (least secured)
     frame-kept e =
         let o = obeyed (kindSaid said) frame secured e in
         record {
-          header = form .kept frame (o .rules) (o .lengthOk);
+          header = form .kept frame (and-left _ (may said) (o .rules)) (o .lengthOk);
           largest = rw (form .largest) (o .largest);
           smallest = rw (header-size frame, trailer-size frame) (o .room);
+          ending = λ present. form .ending ∙ present-so (said .checkField) _ (and-right (kindOf (said .kind) .rules frame) _ (o .rules)) present;
         }
 
     pub frame-tested : FrameRules said frame (least secured) → obeys (kindSaid said) frame secured ≡ true
@@ -56,11 +75,41 @@ module _ (said : Said) where
         let t = form .tested frame (f .header) in
         obeying (kindSaid said) frame secured
         (record {
-          rules = t .0;
+          rules = ap₂ _&&_ (t .0) (allowed-so (said .checkField) _ (λ present. sym (form .ending) ∙ f .ending present));
           lengthOk = t .1;
           largest = rw (← form .largest) (f .largest);
           room = rw (← header-size frame, ← trailer-size frame) (f .smallest);
         })
+
+  -- ---- the check field, answer 12
+
+  module _ (frame : List ℕ) where
+    -- the field of the octets before it, as a list of those
+    of-front : rightField frame ≡ same (drop (length frame - 2) frame) (bytes 2 (checkField (take (length frame - 2) frame)))
+    unfolding rightField
+    of-front = rw (field-take (length frame - 2) frame (omega arith))
+
+    pub field-kept : fieldOk (kindSaid said) frame ≡ true → RightField said frame
+    unfolding fieldOk
+    field-kept e = record { right = λ present. by-presence present e }
+      where
+        by-presence : said .checkField ≡ true → (not (said .checkField) || rightField frame) ≡ true
+            → drop (beforeField said frame) frame ≡ bytes 2 (checkField (take (beforeField said frame) frame))
+        by-presence present ok = rw present (same-eq _ _ (sym of-front ∙ present-so (said .checkField) (rightField frame) ok present))
+
+    pub field-tested : RightField said frame → fieldOk (kindSaid said) frame ≡ true
+    unfolding fieldOk
+    field-tested f =
+        allowed-so (said .checkField) (rightField frame)
+        (λ present.
+        let e : drop (length frame - 2) frame ≡ bytes 2 (checkField (take (length frame - 2) frame)) = rw present at (f .right present) in
+        of-front ∙ rw e (same-refl (bytes 2 (checkField (take (length frame - 2) frame)))))
+
+  -- ---- the operational control field
+
+  pub control-on : (frame : List ℕ) → controlOn said frame ≡ controlOf (kindSaid said) frame
+  unfolding controlOf
+  control-on frame = rw (trailer-size frame)
 
   -- ---- a clear frame
 

@@ -83,7 +83,7 @@ module _ (there numbers : List ℕ) (octets : Octets there) (said : Said) (spi n
   reply = checkingReply true there numbers said S (length output)
 
   kept : Kept k frame S
-  kept = wire.kept r (kindSaid said) (lawful (said .kind)) spi n frame clear fits
+  kept = wire.kept r (kindSaid said) (lawful (said .checkField) (said .kind)) spi n frame clear fits
 
   small-spi : spi < 2 ^ 16
   small-spi = omega (arith, rules .spi i (serves .entry) .1, serves .spis)
@@ -92,7 +92,7 @@ module _ (there numbers : List ℕ) (octets : Octets there) (said : Said) (spi n
   serves-secured =
       record {
         entry = serves .entry;
-        spis = serves .spis ∙ sym (spi-on said S ∙ wire.spi-secured r (kindSaid said) (lawful (said .kind)) spi n frame clear fits small-spi);
+        spis = serves .spis ∙ sym (spi-on said S ∙ wire.spi-secured r (kindSaid said) (lawful (said .checkField) (said .kind)) spi n frame clear fits small-spi);
         state = serves .state;
         directions = serves .directions;
         kinds = serves .kinds;
@@ -111,20 +111,20 @@ module _ (there numbers : List ℕ) (octets : Octets there) (said : Said) (spi n
 
   compared : comparison there numbers said S ≡ true
   unfolding comparison seen
-  compared = rw (finding .association) (wire.right-secured r (kindSaid said) (lawful (said .kind)) spi n frame clear fits)
+  compared = rw (finding .association) (wire.right-secured r (kindSaid said) (lawful (said .checkField) (said .kind)) spi n frame clear fits)
 
   inside : accepts (associationOf there numbers i .number) (r .window) (numberIn r k S) ≡ true
   unfolding associationOf held
   inside =
       let e = window-at there i in
-      let m = wire.number-secured r (kindSaid said) (lawful (said .kind)) spi n frame clear fits (omega (arith, window .most)) in
+      let m = wire.number-secured r (kindSaid said) (lawful (said .checkField) (said .kind)) spi n frame clear fits (omega (arith, window .most)) in
       rw m
       (ap₂ _&&_
       (ap₂ _&&_ (lt-ltb (lastAt numbers i) n (window .above)) (le-leb n (lastAt numbers i + r .window) (omega (arith, window .near))))
       (le-leb n greatest (window .most)))
 
   data-long : clearLength r k S ≡ length (words.dataInClear said frame)
-  data-long = wire.length-data r (kindSaid said) (lawful (said .kind)) spi n frame clear fits ∙ ap length (sym (data-in-clear said frame))
+  data-long = wire.length-data r (kindSaid said) (lawful (said .checkField) (said .kind)) spi n frame clear fits ∙ ap length (sym (data-in-clear said frame))
 
   tests : Checks (seen there numbers w) true said S (length output)
   unfolding seen
@@ -134,12 +134,13 @@ module _ (there numbers : List ℕ) (octets : Octets there) (said : Said) (spi n
             record {
               valid = rules-valid there octets rules;
               agree = agreement-tested there numbers octets agree;
-              rules = wire.obeys-secured r (kindSaid said) (lawful (said .kind)) spi n frame clear fits;
+              rules = wire.obeys-secured r (kindSaid said) (lawful (said .checkField) (said .kind)) spi n frame clear fits;
+              field = wire.field-right r (kindSaid said) (lawful (said .checkField) (said .kind)) spi n frame clear fits;
               found = finding .some;
             };
         under =
             record {
-              long = rw (finding .association) (wire.not-short r (kindSaid said) (lawful (said .kind)) spi n frame clear fits);
+              long = rw (finding .association) (wire.not-short r (kindSaid said) (lawful (said .checkField) (said .kind)) spi n frame clear fits);
               roomy = rw (finding .association, data-long) room;
               mac = refl;
               window = rw (finding .association) inside;
@@ -167,7 +168,7 @@ module _ (there numbers : List ℕ) (octets : Octets there) (said : Said) (spi n
             handed-result reply there numbers output
             (checking-size (seen there numbers w) true said S (length output))
             ∙ ap (λ (x : Association). clearData (heldIn x) k S) (finding .association)
-            ∙ wire.data-secured r (kindSaid said) (lawful (said .kind)) spi n frame clear fits
+            ∙ wire.data-secured r (kindSaid said) (lawful (said .checkField) (said .kind)) spi n frame clear fits
             ∙ sym (data-in-clear said frame);
       })
 

@@ -10,7 +10,7 @@ use lib.Seq.{getD-take}
 use Rattle.octets.specs.Lists.{octet}
 use Rattle.octets.proofs.Parts.{length-part}
 use Rattle.octets.proofs.Sameness.{same-eq}
-use Rattle.frame.specs.Parts.{headerOf, trailerOf}
+use Rattle.frame.specs.Parts.{headerOf}
 use Rattle.frame.specs.Rules.{obeys}
 use Rattle.kinds.proofs.Kept.{lawful}
 use Rattle.frame.proofs.Room.{obeyed}
@@ -36,7 +36,7 @@ use Rattle.promises.specs.Frames as words
 use Rattle.promises.specs.Frames.{SecuredFrom}
 use Rattle.promises.specs.Images.{place, serviceAt, maskAt, keyAt, lastAt}
 use Rattle.promises.proofs.Fields.{service-at, mask-at, key-at}
-use Rattle.promises.proofs.Readings.{form, header-size, trailer-size, frame-kept, data-in-clear}
+use Rattle.promises.proofs.Readings.{form, header-size, frame-kept, field-kept, control-on, data-in-clear}
 use Rattle.promises.proofs.Readings.{security-size, spi-on, number-on, text-on, field-on, mac-right, going-out}
 use Rattle.promises.proofs.Used.{Used, only-entry, send-number, send-used}
 
@@ -114,32 +114,35 @@ module _ (image numbers : List ℕ) (said : Said) (spi : ℕ) (frame output : Li
   header-octet j below-header =
       let k = kindSaid said in
       let n = lastAt numbers e + 1 in
-      let long = wire.length-secured h (kindSaid said) (lawful (said .kind)) spi n frame clear fits in
-      let same = wire.kept h (kindSaid said) (lawful (said .kind)) spi n frame clear fits .header in
+      let long = wire.length-secured h (kindSaid said) (lawful (said .checkField) (said .kind)) spi n frame clear fits in
+      let same = wire.kept h (kindSaid said) (lawful (said .checkField) (said .kind)) spi n frame clear fits .header in
       let room = obeyed k frame false clear .room in
       sym (getD-take (k .header S) S j 0 (omega arith))
-      ∙ ap (λ (s : List ℕ). octet s j) (wire.header-read h (kindSaid said) (lawful (said .kind)) spi n frame clear fits)
+      ∙ ap (λ (s : List ℕ). octet s j) (wire.header-read h (kindSaid said) (lawful (said .checkField) (said .kind)) spi n frame clear fits)
       ∙ rw long (form said .copied (securedLength h frame) frame j fits (omega arith) below-header)
 
   secured-from : length (h .mask) ≡ 6 → SecuredFrom (h .service) said spi (lastAt numbers e + 1) (h .mask) (h .key) frame S
-  unfolding trailerOf
   secured-from six =
       let n = lastAt numbers e + 1 in
-      let long = wire.length-secured h (kindSaid said) (lawful (said .kind)) spi n frame clear fits in
+      let long = wire.length-secured h (kindSaid said) (lawful (said .checkField) (said .kind)) spi n frame clear fits in
       record {
         size = omega (arith, long, security-size h said S);
-        rules = frame-kept said S true (wire.obeys-secured h (kindSaid said) (lawful (said .kind)) spi n frame clear fits);
+        rules = frame-kept said S true (wire.obeys-secured h (kindSaid said) (lawful (said .checkField) (said .kind)) spi n frame clear fits);
         header = λ j below-header. header-octet j (omega (arith, header-size said frame));
-        spis = spi-on said S ∙ wire.spi-secured h (kindSaid said) (lawful (said .kind)) spi n frame clear fits small-spi;
-        number = sym (number-on h said S) ∙ wire.number-secured h (kindSaid said) (lawful (said .kind)) spi n frame clear fits small;
+        spis = spi-on said S ∙ wire.spi-secured h (kindSaid said) (lawful (said .checkField) (said .kind)) spi n frame clear fits small-spi;
+        number = sym (number-on h said S) ∙ wire.number-secured h (kindSaid said) (lawful (said .checkField) (said .kind)) spi n frame clear fits small;
         text =
             sym (text-on h said S)
-            ∙ wire.text-read h (kindSaid said) (lawful (said .kind)) spi n frame clear fits
-            ∙ ap₂ (serviceIn h .goingOut (h .key)) (sym (wire.field-read h (kindSaid said) (lawful (said .kind)) spi n frame clear fits) ∙ field-on h said S)
+            ∙ wire.text-read h (kindSaid said) (lawful (said .checkField) (said .kind)) spi n frame clear fits
+            ∙ ap₂ (serviceIn h .goingOut (h .key)) (sym (wire.field-read h (kindSaid said) (lawful (said .checkField) (said .kind)) spi n frame clear fits) ∙ field-on h said S)
             (sym (data-in-clear said frame))
             ∙ going-out (h .service) (h .key) (words.fieldOn (h .service) said S) (words.dataInClear said frame);
-        mac = sym (same-eq _ _ (sym (mac-right h said S six) ∙ wire.right-secured h (kindSaid said) (lawful (said .kind)) spi n frame clear fits));
-        trailer = rw (trailer-size said S, trailer-size said frame) (wire.trailer-read h (kindSaid said) (lawful (said .kind)) spi n frame clear fits);
+        mac = sym (same-eq _ _ (sym (mac-right h said S six) ∙ wire.right-secured h (kindSaid said) (lawful (said .checkField) (said .kind)) spi n frame clear fits));
+        control =
+            control-on said S
+            ∙ wire.control-read h (kindSaid said) (lawful (said .checkField) (said .kind)) spi n frame clear fits
+            ∙ sym (control-on said frame);
+        field = field-kept said S (wire.field-right h (kindSaid said) (lawful (said .checkField) (said .kind)) spi n frame clear fits);
       }
 
   pub made : SecuredFrom (serviceAt image e) said spi (lastAt numbers e + 1) (maskAt image e) (keyAt image e) frame

@@ -1,6 +1,7 @@
 -- The promises are not empty. Under both services and every kind there are two ends that meet the conditions of the round trip; every
--- answer is given; runs send and release, and one meets the bound on stores; the same with TM associations of two channels, in version 2;
--- and two images of different projects share an entry, or have none for a frame. All of it by computing.
+-- answer is given, with a check field and without; a bit of a frame may change; runs send and release, and one meets the bound on stores;
+-- the same with TM associations of two channels, in version 2; and two images of different projects share an entry, or have none for a
+-- frame. All of it by computing.
 -- Assumes nothing.
 use Prim.Native.Nat.{ℕ, _+_, _<_}
 use mathlib.Core.Path.{_≡_, refl, _∙_}
@@ -15,15 +16,18 @@ use Rattle.octets.specs.Lists.{Octets, tab, part}
 use Rattle.octets.specs.Numbers.{number, bytes}
 use Rattle.octets.proofs.Alls.{and-left, and-right}
 use Rattle.octets.proofs.Bounds.{octets-nil, octets-cons}
+use Rattle.frame.specs.Closing.{fieldOk}
 use Rattle.image.specs.Image.{bodyOf, validImage}
 use Rattle.association.specs.Numbers.{agrees}
 use Rattle.association.specs.Search.{servesChannel}
 use Rattle.link.specs.Calls.{handed, loaded, secured, checkedAs, checked}
 use Rattle.services.specs.Services.{service}
-use Rattle.judging.specs.Said.{Said, saying, kindSaid}
+use Rattle.judging.specs.Said.{Said, kindSaid}
 use Rattle.promises.specs.Cases.{allTrue, imageWith, imageOf, oneNumber, frameC, frameSent, securedC, clearTc, room, imageB, receiver, sender}
+use Rattle.promises.specs.Cases.{bare, fielded}
 use Rattle.promises.specs.Frames.{dataInClear, spiOn, numberOn}
 use Rattle.promises.specs.Isolation.{Standing, both, neither, SameAnswer}
+use Rattle.promises.specs.OneBit.{flipped, BitOf}
 use Rattle.promises.specs.RoundTrip.{Released}
 use Rattle.promises.specs.Runs.{Shown, load, send, check, sendCut, after, ran, trace, shows, restart, sent, released, sentIn, begun}
 use Rattle.promises.specs.Runs.{shownOf}
@@ -33,7 +37,7 @@ use Rattle.promises.proofs.Answers.{nobody}
 use Rattle.promises.proofs.Computing.{everything}
 use Rattle.promises.proofs.Isolation.{isolation}
 use Rattle.promises.proofs.RoundTrip.{round-trip}
-use Rattle.promises.proofs.Readings.{form}
+use Rattle.promises.proofs.Readings.{form, field-kept}
 use Rattle.promises.proofs.Valids.{rules-kept, agreement, channel-served, serving}
 
 abbrev areOctets : List ℕ → Bool
@@ -106,6 +110,24 @@ ocfFrame = 0x01 ∷ 0xBB ∷ 0x00 ∷ 0x00 ∷ 0x00 ∷ 0x00 ∷ 0xAA ∷ 0x01 �
 abbrev aosFrame : List ℕ
 aosFrame = 0x46 ∷ 0xC5 ∷ 0x00 ∷ 0x00 ∷ 0x00 ∷ 0x00 ∷ 0xAA ∷ []
 
+-- the same with a check field, but for AOS, which has none
+abbrev fieldedFrame : List ℕ
+fieldedFrame = 0x00 ∷ 0x1B ∷ 0x14 ∷ 0x07 ∷ 0x00 ∷ 0xAA ∷ 0xA6 ∷ 0xD3 ∷ []
+
+abbrev fieldedSegment : List ℕ
+fieldedSegment = 0x00 ∷ 0x1B ∷ 0x14 ∷ 0x08 ∷ 0x00 ∷ 0xC0 ∷ 0xAA ∷ 0x22 ∷ 0x83 ∷ []
+
+abbrev fieldedTm : List ℕ
+fieldedTm = 0x01 ∷ 0xBA ∷ 0x00 ∷ 0x00 ∷ 0x00 ∷ 0x00 ∷ 0xAA ∷ 0x20 ∷ 0xA1 ∷ []
+
+abbrev fieldedOcf : List ℕ
+fieldedOcf = 0x01 ∷ 0xBB ∷ 0x00 ∷ 0x00 ∷ 0x00 ∷ 0x00 ∷ 0xAA ∷ 0x01 ∷ 0x02 ∷ 0x03 ∷ 0x04 ∷ 0xDF ∷ 0xA4 ∷ []
+
+-- a secured frame with a right field, and with the MAC of nobody
+abbrev fieldedSecured : List ℕ
+fieldedSecured =
+    0x00 ∷ 0x1B ∷ 0x14 ∷ 0x1D ∷ 0x00 ∷ 0x00 ∷ 0x09 ∷ 0x00 ∷ 0x00 ∷ 0x00 ∷ 0x40 ∷ 0xAA ∷ (replicate 16 0x00 ++ (0x7F ∷ 0x81 ∷ []))
+
 -- TM of channel 1
 abbrev otherFrame : List ℕ
 otherFrame = 0x01 ∷ 0xB2 ∷ 0x00 ∷ 0x00 ∷ 0x00 ∷ 0x00 ∷ 0xBB ∷ []
@@ -116,35 +138,50 @@ meetsOne service said frame = meets 1 5 1 5 service said frame
 
 pub conditions-met :
     allTrue
-    (meetsOne 1 (saying 1) frameC
-    ∷ meetsOne 2 (saying 1) frameC
-    ∷ meetsOne 1 (saying 2) segmentedFrame
-    ∷ meetsOne 2 (saying 2) segmentedFrame
-    ∷ meetsOne 1 (saying 3) tmFrame
-    ∷ meetsOne 2 (saying 3) tmFrame
-    ∷ meetsOne 1 (saying 3) ocfFrame
-    ∷ meetsOne 2 (saying 3) ocfFrame
-    ∷ meetsOne 1 (saying 4) aosFrame
-    ∷ meetsOne 2 (saying 4) aosFrame
+    (meetsOne 1 (bare 1) frameC
+    ∷ meetsOne 2 (bare 1) frameC
+    ∷ meetsOne 1 (bare 2) segmentedFrame
+    ∷ meetsOne 2 (bare 2) segmentedFrame
+    ∷ meetsOne 1 (bare 3) tmFrame
+    ∷ meetsOne 2 (bare 3) tmFrame
+    ∷ meetsOne 1 (bare 3) ocfFrame
+    ∷ meetsOne 2 (bare 3) ocfFrame
+    ∷ meetsOne 1 (bare 4) aosFrame
+    ∷ meetsOne 2 (bare 4) aosFrame
     ∷ [])
     ≡ true
 unfolding everything
 conditions-met = refl
 
+pub conditions-met-with-field :
+    allTrue
+    (meetsOne 1 (fielded 1) fieldedFrame
+    ∷ meetsOne 2 (fielded 1) fieldedFrame
+    ∷ meetsOne 1 (fielded 2) fieldedSegment
+    ∷ meetsOne 2 (fielded 2) fieldedSegment
+    ∷ meetsOne 1 (fielded 3) fieldedTm
+    ∷ meetsOne 2 (fielded 3) fieldedTm
+    ∷ meetsOne 1 (fielded 3) fieldedOcf
+    ∷ meetsOne 2 (fielded 3) fieldedOcf
+    ∷ [])
+    ≡ true
+unfolding everything
+conditions-met-with-field = refl
+
 -- in version 2 an octet 0x22 of TM is the set of channels 1 and 5; of TC and AOS the octet is a channel. The other end may have the same set,
 -- another one that has the frame's channel, or version 1 and that channel
 pub conditions-met-by-sets :
     allTrue
-    (meets 2 0x22 2 0x22 1 (saying 3) tmFrame
-    ∷ meets 2 0x22 2 0x22 2 (saying 3) tmFrame
-    ∷ meets 2 0x22 2 0x22 1 (saying 3) otherFrame
-    ∷ meets 2 0x22 2 0x22 2 (saying 3) otherFrame
-    ∷ meets 2 0x22 2 0x82 1 (saying 3) otherFrame
-    ∷ meets 2 0x22 1 5 1 (saying 3) tmFrame
-    ∷ meets 1 5 2 0x22 2 (saying 3) ocfFrame
-    ∷ meets 2 5 2 5 1 (saying 1) frameC
-    ∷ meets 2 5 1 5 1 (saying 2) segmentedFrame
-    ∷ meets 2 5 2 5 2 (saying 4) aosFrame
+    (meets 2 0x22 2 0x22 1 (bare 3) tmFrame
+    ∷ meets 2 0x22 2 0x22 2 (bare 3) tmFrame
+    ∷ meets 2 0x22 2 0x22 1 (bare 3) otherFrame
+    ∷ meets 2 0x22 2 0x22 2 (bare 3) otherFrame
+    ∷ meets 2 0x22 2 0x82 1 (bare 3) otherFrame
+    ∷ meets 2 0x22 1 5 1 (bare 3) tmFrame
+    ∷ meets 1 5 2 0x22 2 (bare 3) ocfFrame
+    ∷ meets 2 5 2 5 1 (bare 1) frameC
+    ∷ meets 2 5 1 5 1 (bare 2) segmentedFrame
+    ∷ meets 2 5 2 5 2 (bare 4) aosFrame
     ∷ [])
     ≡ true
 unfolding everything
@@ -157,23 +194,70 @@ pub answers-given :
     (eqb (loaded [] [] .answer) 1
     ∷ eqb (frameSent [] 63 .answer) 1
     ∷ eqb (frameSent imageB 64 .answer) 2
-    ∷ eqb (secured imageB (oneNumber 63) (saying 5) 9 frameC room .answer) 3
-    ∷ eqb (secured imageB (oneNumber 63) (saying 1) 8 frameC room .answer) 4
+    ∷ eqb (secured imageB (oneNumber 63) (bare 5) 9 frameC room .answer) 3
+    ∷ eqb (secured imageB (oneNumber 63) (bare 1) 8 frameC room .answer) 4
     ∷ eqb (loaded (imageWith 2 0 1 3 1 100 0) [] .answer) 1
     ∷ eqb (loaded (imageWith 3 5 1 3 1 100 0) [] .answer) 1
-    ∷ eqb (secured (imageWith 2 0x20 1 3 1 100 0) (oneNumber 63) (saying 3) 9 otherFrame room .answer) 4
-    ∷ eqb (secured imageB (oneNumber 63) (saying 1) 9 (clearTc 1003) room .answer) 11
-    ∷ eqb (secured imageB (oneNumber 63) (saying 1) 9 frameC [] .answer) 6
+    ∷ eqb (secured (imageWith 2 0x20 1 3 1 100 0) (oneNumber 63) (bare 3) 9 otherFrame room .answer) 4
+    ∷ eqb (secured imageB (oneNumber 63) (bare 1) 9 (clearTc 1003) room .answer) 11
+    ∷ eqb (secured imageB (oneNumber 63) (bare 1) 9 frameC [] .answer) 6
     ∷ eqb (frameSent (sender 100 0x02000000) 4294967295 .answer) 10
-    ∷ eqb (checkedAs true (receiver 100 0) (oneNumber 63) (saying 1) (0x00 ∷ 0x1B ∷ 0x14 ∷ 0x07 ∷ 0x00 ∷ 0x00 ∷ 0x09 ∷ 0xAA ∷ []) room .answer) 5
-    ∷ eqb (checkedAs true (receiver 100 0) (oneNumber 63) (saying 1) (securedC 64) [] .answer) 6
-    ∷ eqb (checkedAs false (receiver 100 0) (oneNumber 63) (saying 1) (securedC 64) room .answer) 7
-    ∷ eqb (checkedAs false (receiver 100 0) (oneNumber 63) (saying 1) (securedC 164) room .answer) 7
-    ∷ eqb (checkedAs true (receiver 100 0) (oneNumber 63) (saying 1) (securedC 164) room .answer) 8
+    ∷ eqb (checkedAs true (receiver 100 0) (oneNumber 63) (bare 1) (0x00 ∷ 0x1B ∷ 0x14 ∷ 0x07 ∷ 0x00 ∷ 0x00 ∷ 0x09 ∷ 0xAA ∷ []) room .answer) 5
+    ∷ eqb (checkedAs true (receiver 100 0) (oneNumber 63) (bare 1) (securedC 64) [] .answer) 6
+    ∷ eqb (checkedAs false (receiver 100 0) (oneNumber 63) (bare 1) (securedC 64) room .answer) 7
+    ∷ eqb (checkedAs false (receiver 100 0) (oneNumber 63) (bare 1) (securedC 164) room .answer) 7
+    ∷ eqb (checkedAs true (receiver 100 0) (oneNumber 63) (bare 1) (securedC 164) room .answer) 8
     ∷ [])
     ≡ true
 unfolding everything
 answers-given = refl
+
+-- with a check field: one that AOS may not have, a wrong one before SPI 8, which no entry has, and a right one; and what another word on it does
+pub answers-given-with-field :
+    allTrue
+    (eqb (secured (imageOf 1 4 1 100 0) (oneNumber 63) (fielded 4) 9 aosFrame room .answer) 3
+    ∷ eqb (secured imageB (oneNumber 63) (fielded 1) 8 (set fieldedFrame 7 0xD2) room .answer) 12
+    ∷ eqb (secured imageB (oneNumber 63) (fielded 1) 8 fieldedFrame room .answer) 4
+    ∷ eqb (secured imageB (oneNumber 63) (fielded 1) 9 fieldedFrame room .answer) 0
+    ∷ eqb (secured imageB (oneNumber 63) (bare 1) 9 fieldedFrame room .answer) 0
+    ∷ eqb (secured imageB (oneNumber 63) (fielded 1) 9 frameC room .answer) 3
+    ∷ eqb (checkedAs true (receiver 100 0) (oneNumber 63) (fielded 1) fieldedSecured room .answer) 0
+    ∷ eqb (checkedAs false (receiver 100 0) (oneNumber 63) (fielded 1) (set fieldedSecured 12 0x01) room .answer) 12
+    ∷ [])
+    ≡ true
+unfolding everything
+answers-given-with-field = refl
+
+-- ---- one bit changed: both answers are given, and the conditions are met by clear and by secured frames
+
+pub bits-seen :
+    allTrue
+    (eqb (secured imageB (oneNumber 63) (fielded 1) 9 (flipped 0 7 fieldedFrame) room .answer) 3
+    ∷ eqb (secured imageB (oneNumber 63) (fielded 1) 9 (flipped 3 0 fieldedFrame) room .answer) 3
+    ∷ eqb (secured imageB (oneNumber 63) (fielded 1) 9 (flipped 5 7 fieldedFrame) room .answer) 12
+    ∷ eqb (secured imageB (oneNumber 63) (fielded 1) 9 (flipped 7 0 fieldedFrame) room .answer) 12
+    ∷ [])
+    ≡ true
+unfolding everything
+bits-seen = refl
+
+-- any bit of a frame whose octets are octets and whose field is right
+any-bit : (said : Said) (frame : List ℕ) → said .checkField ≡ true → areOctets frame ≡ true → fieldOk (kindSaid said) frame ≡ true
+    → (p b : ℕ) → p < length frame → b < 8 → BitOf said frame p b
+any-bit said frame present octets right p b place bit =
+    record { octets = octets-of frame octets; said-so = present; field = field-kept said frame right; place = place; bit = bit }
+
+pub bits-of-clear : (p b : ℕ) → p < 8 → b < 8 → BitOf (fielded 1) fieldedFrame p b
+unfolding everything
+bits-of-clear = any-bit (fielded 1) fieldedFrame refl refl refl
+
+pub bits-of-ocf : (p b : ℕ) → p < 13 → b < 8 → BitOf (fielded 3) fieldedOcf p b
+unfolding everything
+bits-of-ocf = any-bit (fielded 3) fieldedOcf refl refl refl
+
+pub bits-of-secured : (p b : ℕ) → p < 30 → b < 8 → BitOf (fielded 1) fieldedSecured p b
+unfolding everything
+bits-of-secured = any-bit (fielded 1) fieldedSecured refl refl refl
 
 -- ---- runs
 
@@ -195,23 +279,24 @@ abbrev sendingsShown : List Shown
 sendingsShown = restart ∷ sent 64 ∷ sent 65 ∷ restart ∷ sent 128 ∷ restart ∷ restart ∷ sent 256 ∷ []
 
 pub run-sends :
-    (sendings 1 (saying 1) frameC ≡ sendingsShown)
-    × (sendings 1 (saying 4) aosFrame ≡ sendingsShown)
-    × (sendings 2 (saying 4) aosFrame ≡ sendingsShown)
+    (sendings 1 (bare 1) frameC ≡ sendingsShown)
+    × (sendings 1 (bare 4) aosFrame ≡ sendingsShown)
+    × (sendings 2 (bare 4) aosFrame ≡ sendingsShown)
+    × (sendings 1 (fielded 1) fieldedFrame ≡ sendingsShown)
 unfolding everything trace shows after
-run-sends = (refl, refl, refl)
+run-sends = (refl, refl, refl, refl)
 
 -- a run over two channels of one set, interleaved, with a load and a cut between: one number for both
 abbrev sendingsOfSet : ℕ → List Shown
 sendingsOfSet service =
     shownOf 0 (imageWith 2 0x22 service 3 1 100 0) []
-    (send (saying 3) 9 tmFrame room
-    ∷ send (saying 3) 9 otherFrame room
+    (send (bare 3) 9 tmFrame room
+    ∷ send (bare 3) 9 otherFrame room
     ∷ load []
-    ∷ send (saying 3) 9 otherFrame room
+    ∷ send (bare 3) 9 otherFrame room
     ∷ load []
-    ∷ sendCut (saying 3) 9 tmFrame room 1 []
-    ∷ send (saying 3) 9 tmFrame room
+    ∷ sendCut (bare 3) 9 tmFrame room 1 []
+    ∷ send (bare 3) 9 tmFrame room
     ∷ [])
 
 pub run-sends-by-sets : (sendingsOfSet 1 ≡ sendingsShown) × (sendingsOfSet 2 ≡ sendingsShown)
@@ -219,14 +304,14 @@ unfolding everything trace shows after
 run-sends-by-sets = (refl, refl)
 
 -- the bound on stores is met: by a run of two frames, three loads and a cut, which makes a store at each
-pub run-wears : let steps = send (saying 1) 9 frameC room ∷ load [] ∷ sendCut (saying 1) 9 frameC room 1 [] ∷ send (saying 1) 9 frameC room ∷ [] in
+pub run-wears : let steps = send (bare 1) 9 frameC room ∷ load [] ∷ sendCut (bare 1) 9 frameC room 1 [] ∷ send (bare 1) 9 frameC room ∷ [] in
     (storesOf 0 imageB [] steps ≡ 3) × (framesOf 0 imageB [] steps ≡ 2) × (loadsOf imageB [] steps ≡ 3)
 unfolding everything trace shows after makes makesUnder accepts storesIn loadsIn sentIn
 run-wears = (refl, refl, refl)
 
 -- and by 64 frames after one load, and one more sending that is cut after its store
-pub run-wears-on : let steps = replicate 64 (send (saying 1) 9 frameC room) in
-    let next = makesUnder 0 (ran (begun imageB) (load [] ∷ steps)) (sendCut (saying 1) 9 frameC room 1 []) in
+pub run-wears-on : let steps = replicate 64 (send (bare 1) 9 frameC room) in
+    let next = makesUnder 0 (ran (begun imageB) (load [] ∷ steps)) (sendCut (bare 1) 9 frameC room 1 []) in
     (storesOf 0 imageB [] steps + length next ≡ 2) × (framesOf 0 imageB [] steps ≡ 64) × (loadsOf imageB [] steps ≡ 1)
 unfolding everything trace shows after makes makesUnder accepts storesIn loadsIn sentIn ran
 run-wears-on = (refl, refl, refl)
@@ -239,22 +324,24 @@ releases service said frame =
 -- and a frame of channel 1, under the set of channels 1 and 5
 abbrev releasesBySets : ℕ → List Shown
 releasesBySets service =
-    shownOf 0 (there 2 0x22 2 0x22 service (saying 3) otherFrame) []
-    (check (saying 3) (out 2 0x22 2 0x22 service (saying 3) otherFrame) room ∷ [])
+    shownOf 0 (there 2 0x22 2 0x22 service (bare 3) otherFrame) []
+    (check (bare 3) (out 2 0x22 2 0x22 service (bare 3) otherFrame) room ∷ [])
 
 pub run-releases-by-sets : releasesBySets 1 ≡ restart ∷ released 64 ∷ []
 unfolding everything trace shows after
-run-releases-by-sets = rw (released-there 2 0x22 2 0x22 1 (saying 3) otherFrame refl .answer)
+run-releases-by-sets = rw (released-there 2 0x22 2 0x22 1 (bare 3) otherFrame refl .answer)
 
 pub run-releases :
-    (releases 1 (saying 1) frameC ≡ restart ∷ released 64 ∷ [])
-    × (releases 1 (saying 4) aosFrame ≡ restart ∷ released 64 ∷ [])
-    × (releases 2 (saying 4) aosFrame ≡ restart ∷ released 64 ∷ [])
+    (releases 1 (bare 1) frameC ≡ restart ∷ released 64 ∷ [])
+    × (releases 1 (bare 4) aosFrame ≡ restart ∷ released 64 ∷ [])
+    × (releases 2 (bare 4) aosFrame ≡ restart ∷ released 64 ∷ [])
+    × (releases 1 (fielded 1) fieldedFrame ≡ restart ∷ released 64 ∷ [])
 unfolding everything trace shows after
 run-releases = (
-  rw (released-there 1 5 1 5 1 (saying 1) frameC refl .answer),
-  rw (released-there 1 5 1 5 1 (saying 4) aosFrame refl .answer),
-  rw (released-there 1 5 1 5 2 (saying 4) aosFrame refl .answer),
+  rw (released-there 1 5 1 5 1 (bare 1) frameC refl .answer),
+  rw (released-there 1 5 1 5 1 (bare 4) aosFrame refl .answer),
+  rw (released-there 1 5 1 5 2 (bare 4) aosFrame refl .answer),
+  rw (released-there 1 5 1 5 1 (fielded 1) fieldedFrame refl .answer),
 )
 
 -- ---- two projects' images
@@ -304,21 +391,21 @@ unfolding everything
 two-receive = standing (twoProjects 2) twoNumbers refl refl refl
 
 -- a sending, and the check of the frame that it hands out, under the entry that both images have
-pub same-sending : SameAnswer (secured imageB (oneNumber 63) (saying 1) 9 frameC room) (secured (twoProjects 1) twoNumbers (saying 1) 9 frameC room)
+pub same-sending : SameAnswer (secured imageB (oneNumber 63) (bare 1) 9 frameC room) (secured (twoProjects 1) twoNumbers (bare 1) 9 frameC room)
 unfolding everything
 same-sending =
-    isolation .sending imageB (oneNumber 63) (twoProjects 1) twoNumbers (saying 1) 9 frameC room room one-sends two-send refl
-    (both 0 1 (serving imageB 1 (saying 1) 9 frameC 0 (lit< tt) refl) (serving (twoProjects 1) 1 (saying 1) 9 frameC 1 (lit< tt) refl)
+    isolation .sending imageB (oneNumber 63) (twoProjects 1) twoNumbers (bare 1) 9 frameC room room one-sends two-send refl
+    (both 0 1 (serving imageB 1 (bare 1) 9 frameC 0 (lit< tt) refl) (serving (twoProjects 1) 1 (bare 1) 9 frameC 1 (lit< tt) refl)
     refl refl refl)
 
-pub same-check : let frame = out 1 5 1 5 1 (saying 1) frameC in
-    SameAnswer (checked (receiver 100 0) (oneNumber 63) (saying 1) frame room) (checked (twoProjects 2) twoNumbers (saying 1) frame room)
+pub same-check : let frame = out 1 5 1 5 1 (bare 1) frameC in
+    SameAnswer (checked (receiver 100 0) (oneNumber 63) (bare 1) frame room) (checked (twoProjects 2) twoNumbers (bare 1) frame room)
 unfolding everything
 same-check =
-    let frame = out 1 5 1 5 1 (saying 1) frameC in
-    let spi = spiOn (saying 1) frame in
-    isolation .checking (receiver 100 0) (oneNumber 63) (twoProjects 2) twoNumbers (saying 1) frame room room one-receives two-receive refl
-    (both 0 1 (serving (receiver 100 0) 2 (saying 1) spi frame 0 (lit< tt) refl) (serving (twoProjects 2) 2 (saying 1) spi frame 1 (lit< tt) refl)
+    let frame = out 1 5 1 5 1 (bare 1) frameC in
+    let spi = spiOn (bare 1) frame in
+    isolation .checking (receiver 100 0) (oneNumber 63) (twoProjects 2) twoNumbers (bare 1) frame room room one-receives two-receive refl
+    (both 0 1 (serving (receiver 100 0) 2 (bare 1) spi frame 0 (lit< tt) refl) (serving (twoProjects 2) 2 (bare 1) spi frame 1 (lit< tt) refl)
     refl refl refl)
 
 -- in version 2: a sending on channel 1 of the set of channels 1 and 5
@@ -331,30 +418,30 @@ unfolding everything
 set-sends-besides = standing (besides 2 0x22 3 1) twoNumbers refl refl refl
 
 pub same-sending-by-sets : let one = imageWith 2 0x22 1 3 1 100 0 in
-    SameAnswer (secured one (oneNumber 63) (saying 3) 9 otherFrame room) (secured (besides 2 0x22 3 1) twoNumbers (saying 3) 9 otherFrame room)
+    SameAnswer (secured one (oneNumber 63) (bare 3) 9 otherFrame room) (secured (besides 2 0x22 3 1) twoNumbers (bare 3) 9 otherFrame room)
 unfolding everything
 same-sending-by-sets =
     let one = imageWith 2 0x22 1 3 1 100 0 in
     let two = besides 2 0x22 3 1 in
-    isolation .sending one (oneNumber 63) two twoNumbers (saying 3) 9 otherFrame room room set-sends set-sends-besides refl
-    (both 0 1 (serving one 1 (saying 3) 9 otherFrame 0 (lit< tt) refl) (serving two 1 (saying 3) 9 otherFrame 1 (lit< tt) refl)
+    isolation .sending one (oneNumber 63) two twoNumbers (bare 3) 9 otherFrame room room set-sends set-sends-besides refl
+    (both 0 1 (serving one 1 (bare 3) 9 otherFrame 0 (lit< tt) refl) (serving two 1 (bare 3) 9 otherFrame 1 (lit< tt) refl)
     refl refl refl)
 
 -- a sending under SPI 8 and a check at the ends that send: neither image has an entry for them
-pub neither-sends : SameAnswer (secured imageB (oneNumber 63) (saying 1) 8 frameC room) (secured (twoProjects 1) twoNumbers (saying 1) 8 frameC room)
+pub neither-sends : SameAnswer (secured imageB (oneNumber 63) (bare 1) 8 frameC room) (secured (twoProjects 1) twoNumbers (bare 1) 8 frameC room)
 unfolding everything
 neither-sends =
-    isolation .sending imageB (oneNumber 63) (twoProjects 1) twoNumbers (saying 1) 8 frameC room room one-sends two-send refl
-    (neither (λ i s. nobody imageB (oneNumber 63) (one-sends .octets) 1 (saying 1) 8 frameC refl (i, s))
-    (λ i s. nobody (twoProjects 1) twoNumbers (two-send .octets) 1 (saying 1) 8 frameC refl (i, s)))
+    isolation .sending imageB (oneNumber 63) (twoProjects 1) twoNumbers (bare 1) 8 frameC room room one-sends two-send refl
+    (neither (λ i s. nobody imageB (oneNumber 63) (one-sends .octets) 1 (bare 1) 8 frameC refl (i, s))
+    (λ i s. nobody (twoProjects 1) twoNumbers (two-send .octets) 1 (bare 1) 8 frameC refl (i, s)))
 
 pub neither-checks :
-    SameAnswer (checked imageB (oneNumber 63) (saying 1) (securedC 64) room) (checked (twoProjects 1) twoNumbers (saying 1) (securedC 64) room)
+    SameAnswer (checked imageB (oneNumber 63) (bare 1) (securedC 64) room) (checked (twoProjects 1) twoNumbers (bare 1) (securedC 64) room)
 unfolding everything
 neither-checks =
-    isolation .checking imageB (oneNumber 63) (twoProjects 1) twoNumbers (saying 1) (securedC 64) room room one-sends two-send refl
-    (neither (λ i s. nobody imageB (oneNumber 63) (one-sends .octets) 2 (saying 1) 9 (securedC 64) refl (i, s))
-    (λ i s. nobody (twoProjects 1) twoNumbers (two-send .octets) 2 (saying 1) 9 (securedC 64) refl (i, s)))
+    isolation .checking imageB (oneNumber 63) (twoProjects 1) twoNumbers (bare 1) (securedC 64) room room one-sends two-send refl
+    (neither (λ i s. nobody imageB (oneNumber 63) (one-sends .octets) 2 (bare 1) 9 (securedC 64) refl (i, s))
+    (λ i s. nobody (twoProjects 1) twoNumbers (two-send .octets) 2 (bare 1) 9 (securedC 64) refl (i, s)))
 
 -- ---- from version 1 to version 2
 

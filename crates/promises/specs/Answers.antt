@@ -16,7 +16,7 @@ use Rattle.judging.specs.declared.answers.Answer.{Answer}
 use Rattle.judging.specs.declared.answers.Answer.the-variants as answer
 use Rattle.promises.specs.Forms.{formSaid}
 use Rattle.promises.specs.Images.{ImageRules, Agreeing, InWindow, Serves, serviceAt, windowAt, maskAt, keyAt, lastAt}
-use Rattle.promises.specs.Frames.{FrameRules, headerSize, trailerSize, securitySize, spiOn, numberOn, textOn, macOn, rightMac}
+use Rattle.promises.specs.Frames.{FrameRules, RightField, headerSize, trailerSize, securitySize, spiOn, numberOn, textOn, macOn, rightMac}
 
 -- ---- the table: a refusal reports length 0 and 0 stores
 
@@ -35,6 +35,7 @@ pub record Table : Type 0 where
   pub eight : reported answer.OutsideWindow ≡ reporting 8 0 0
   pub ten : reported answer.NumbersSpent ≡ reporting 10 0 0
   pub eleven : reported answer.TooLong ≡ reporting 11 0 0
+  pub twelve : reported answer.WrongCheckField ≡ reporting 12 0 0
 
 -- ---- the first rule that is broken
 
@@ -62,7 +63,7 @@ pub record Exactly (rules : Rules) (report : Reported) : Type 0 where
 abbrev pub loadRules : List ℕ → Rules
 loadRules image = rule answer.BadImage (ImageRules image) noMore
 
--- in the order 1, 2, 3, 4, 11, 6, 10; `under` the entry that serves the frame, of which a valid image has at most one
+-- in the order 1, 2, 3, 12, 4, 11, 6, 10; `under` the entry that serves the frame, of which a valid image has at most one
 abbrev pub securingRules : List ℕ → List ℕ → Said → ℕ → List ℕ → List ℕ → Rules
 securingRules image numbers said spi frame output =
     let serves : ℕ → Type 0 = Serves image 1 said spi frame in
@@ -71,13 +72,14 @@ securingRules image numbers said spi frame output =
     rule answer.BadImage (ImageRules image)
     (rule answer.BadMarks (Agreeing image numbers)
     (rule answer.BadFrame (FrameRules said frame 1)
+    (rule answer.WrongCheckField (RightField said frame)
     (rule answer.NoEntry ((e : ℕ) × serves e)
     (rule answer.TooLong (under (λ e. size e ≤ formSaid said .largest))
     (rule answer.NoRoom (under (λ e. size e ≤ length output))
     (rule answer.NumbersSpent (under (λ e. lastAt numbers e < 4294967295))
-    noMore))))))
+    noMore)))))))
 
--- in the order 1, 2, 3, 4, 5, 6, 7, 8
+-- in the order 1, 2, 3, 12, 4, 5, 6, 7, 8
 abbrev pub checkingRules : List ℕ → List ℕ → Said → List ℕ → List ℕ → Rules
 checkingRules image numbers said frame output =
     let serves : ℕ → Type 0 = Serves image 2 said (spiOn said frame) frame in
@@ -88,12 +90,13 @@ checkingRules image numbers said frame output =
     rule answer.BadImage (ImageRules image)
     (rule answer.BadMarks (Agreeing image numbers)
     (rule answer.BadFrame (FrameRules said frame 2)
+    (rule answer.WrongCheckField (RightField said frame)
     (rule answer.NoEntry ((e : ℕ) × serves e)
     (rule answer.TooShort (under (λ e. least e ≤ length frame))
     (rule answer.NoRoom (under (λ e. length (text e) ≤ length output))
     (rule answer.WrongMac (under (λ e. right e ≡ macOn said frame))
     (rule answer.OutsideWindow (under (λ e. InWindow (lastAt numbers e) (windowAt image e) (numberOn (serviceAt image e) said frame)))
-    noMore)))))))
+    noMore))))))))
 
 pub record Answering : Type 0 where
   pub table : Table

@@ -1,17 +1,19 @@
--- Cases A to L of document 01, as one list of tests. The ciphers are never computed: a check is asked what it does where the comparison of
--- the MAC falls out well, and of a frame that goes out its length and its first 12 octets are read. It supposes nothing.
+-- Cases A to L of document 01, as one list of tests, and case L with a check field. The ciphers are never computed: a check is asked what
+-- it does where the comparison of the MAC falls out well, and of a frame that goes out its length and its first 12 octets are read. It
+-- supposes nothing.
 -- Assumes nothing.
 use Prim.Native.Nat.{ℕ, _+_, _-_, _/_, _%_}
 use mathlib.Core.Path.{_≡_}
-use mathlib.Core.Bool.{Bool, true, _&&_, cond}
+use mathlib.Core.Bool.{Bool, true, false, _&&_, cond}
 use mathlib.Core.List.{List, [], _∷_, _++_}
 use lib.Dec.{eqb}
 use lib.ListN.{length, set, take, replicate}
 use Rattle.octets.specs.Lists.{octet}
 use Rattle.octets.specs.Numbers.{bytes}
 use Rattle.octets.specs.Same.{same}
+use Rattle.check_field.specs.CheckField.{withField}
 use Rattle.link.specs.Calls.{Left, loaded, secured, checkedAs, checkedCutAs}
-use Rattle.judging.specs.Said.{saying}
+use Rattle.judging.specs.Said.{Said, saying}
 use Rattle.promises.specs.Images.{countIn, positionAt}
 
 abbrev pub allTrue : List Bool → Bool
@@ -55,19 +57,26 @@ securedC n = 0x00 ∷ 0x1B ∷ 0x14 ∷ 0x1B ∷ 0x00 ∷ 0x00 ∷ 0x09 ∷ (byt
 unfoldable pub clearTc : ℕ → List ℕ
 clearTc n = 0x00 ∷ 0x1B ∷ (0x14 + (n - 1) / 256) ∷ ((n - 1) % 256) ∷ 0x00 ∷ replicate (n - 5) 0xAA
 
+-- what is said of a frame: its kind, without a check field and with one
+abbrev pub bare : ℕ → Said
+bare kind = saying kind false
+
+abbrev pub fielded : ℕ → Said
+fielded kind = saying kind true
+
 unfoldable pub room : List ℕ
 room = replicate 1100 0
 
 -- case C's frame sent, after the number `last`
 abbrev pub frameSent : List ℕ → ℕ → Left
-frameSent image last = secured image (oneNumber last) (saying 1) 9 frameC room
+frameSent image last = secured image (oneNumber last) (bare 1) 9 frameC room
 
 -- the frame of number n checked after the number `last`, its MAC right; and cut after j stores
 abbrev pub frameChecked : List ℕ → ℕ → ℕ → Left
-frameChecked image last n = checkedAs true image (oneNumber last) (saying 1) (securedC n) room
+frameChecked image last n = checkedAs true image (oneNumber last) (bare 1) (securedC n) room
 
 abbrev pub frameCut : List ℕ → ℕ → ℕ → ℕ → List ℕ
-frameCut image last n j = checkedCutAs true image (oneNumber last) (saying 1) (securedC n) room j
+frameCut image last n j = checkedCutAs true image (oneNumber last) (bare 1) (securedC n) room j
 
 -- ---- the cases
 
@@ -110,7 +119,7 @@ cases =
     -- the clear frame is well formed; with fourth octet 06: 3
     ∷ case C
     (eqb (frameSent imageB 63 .answer) 0
-    ∷ eqb (secured imageB (oneNumber 63) (saying 1) 9 (set frameC 3 0x06) room .answer) 3
+    ∷ eqb (secured imageB (oneNumber 63) (bare 1) 9 (set frameC 3 0x06) room .answer) 3
     ∷ [])
     -- C under B becomes 28 octets with this start; the last mark octet, at 57, goes 00 to 01; one store
     ∷ case D
@@ -160,9 +169,9 @@ cases =
     ∷ [])
     -- a TC frame of 1,002 clear octets under service 1 gives 1,024; 1,003 gives 11
     ∷ case L
-    (eqb (secured imageB (oneNumber 63) (saying 1) 9 (clearTc 1002) room .answer) 0
-    ∷ eqb (secured imageB (oneNumber 63) (saying 1) 9 (clearTc 1002) room .length) 1024
-    ∷ eqb (secured imageB (oneNumber 63) (saying 1) 9 (clearTc 1003) room .answer) 11
+    (eqb (secured imageB (oneNumber 63) (bare 1) 9 (clearTc 1002) room .answer) 0
+    ∷ eqb (secured imageB (oneNumber 63) (bare 1) 9 (clearTc 1002) room .length) 1024
+    ∷ eqb (secured imageB (oneNumber 63) (bare 1) 9 (clearTc 1003) room .answer) 11
     ∷ [])
     ∷ []
 
@@ -173,3 +182,14 @@ holding (c ∷ cs) = cond (allTrue (c .tests)) (c .letter ∷ holding cs) (holdi
 
 abbrev pub CasesHold : Type 0
 CasesHold = holding cases ≡ A ∷ B ∷ C ∷ D ∷ E ∷ F ∷ G ∷ H ∷ I ∷ J ∷ K ∷ L ∷ []
+
+-- ---- document 02, request 4: case L keeps its sizes, the check field counted in
+
+-- a clear TC frame of n octets, the last two of which are its check field
+unfoldable pub fieldedTc : ℕ → List ℕ
+fieldedTc n = withField (take (n - 2) (clearTc n))
+
+pub record FieldCounted : Type 0 where
+  pub done : secured imageB (oneNumber 63) (fielded 1) 9 (fieldedTc 1002) room .answer ≡ 0
+  pub size : secured imageB (oneNumber 63) (fielded 1) 9 (fieldedTc 1002) room .length ≡ 1024
+  pub exceeding : secured imageB (oneNumber 63) (fielded 1) 9 (fieldedTc 1003) room .answer ≡ 11

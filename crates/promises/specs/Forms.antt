@@ -1,4 +1,4 @@
--- Document 01, 'Frames' and 'The image', and document 02, request 1: the kinds of frame, in the octets of a frame, to be laid beside those
+-- Document 01, 'Frames' and 'The image', and document 02, requests 1 and 4: the kinds of frame, in the octets of a frame, to be laid beside those
 -- sections. The promises name a kind in these words and not in those of the definitions that they are about, so that a definition which
 -- skips a rule, reads another bit or copies less of a header breaks a promise. A kind is one record, and what is promised is stated once
 -- over any.
@@ -6,7 +6,7 @@
 -- Assumes nothing.
 use Prim.Native.Nat.{ℕ, _+_, _-_, _*_, _/_, _%_}
 use mathlib.Core.Path.{_≡_}
-use mathlib.Core.Bool.{cond}
+use mathlib.Core.Bool.{Bool, true, false, cond}
 use mathlib.Core.List.{List}
 use lib.Bits.{bitAnd}
 use lib.Dec.{eqb}
@@ -21,6 +21,8 @@ pub record Form : Type 1 where
   pub header : List ℕ → ℕ
   pub trailer : List ℕ → ℕ
   pub largest : ℕ
+  -- whether a check field may stand at the end
+  pub mayEndInField : Bool
   -- octet j of the header that a clear frame gets when it is secured, in a frame of n octets
   pub securedOctet : ℕ → List ℕ → ℕ → ℕ
   -- the identifiers, and the most that an image allows of each
@@ -53,6 +55,7 @@ tcForm h map most =
       header = λ frame. h;
       trailer = λ frame. 0;
       largest = 1024;
+      mayEndInField = true;
       securedOctet = tcSecuredOctet;
       spacecraft = λ frame. octet frame 0 % 4 * 256 + octet frame 1;
       channel = λ frame. octet frame 2 / 4;
@@ -86,6 +89,7 @@ tmForm =
       header = λ frame. 6;
       trailer = λ frame. 4 * (octet frame 1 % 2);
       largest = 2048;
+      mayEndInField = true;
       securedOctet = copiedOctet;
       spacecraft = λ frame. octet frame 0 % 64 * 16 + octet frame 1 / 16;
       channel = λ frame. octet frame 1 / 2 % 8;
@@ -100,7 +104,7 @@ tmForm =
 pub record AosHeader (aos : List ℕ) : Type 0 where
   pub version : octet aos 0 / 64 ≡ 1
 
--- there is no length field here either, and no operational control field
+-- there is no length field here either, no operational control field, and no check field
 abbrev pub aosForm : Form
 aosForm =
     record {
@@ -108,6 +112,7 @@ aosForm =
       header = λ frame. 6;
       trailer = λ frame. 0;
       largest = 2048;
+      mayEndInField = false;
       securedOctet = copiedOctet;
       spacecraft = λ frame. octet frame 0 % 64 * 4 + octet frame 1 / 64;
       channel = λ frame. octet frame 1 % 64;
@@ -126,6 +131,7 @@ noForm =
       header = λ frame. 0;
       trailer = λ frame. 0;
       largest = 0;
+      mayEndInField = false;
       securedOctet = λ n clear j. 0;
       spacecraft = λ frame. 0;
       channel = λ frame. 0;

@@ -1,15 +1,17 @@
--- Document 01, 'Frames', in the octets of a frame: what a clear frame holds, and what a secured frame holds under the service that made
--- it. Header and trailer are those of the form (`Forms`) that the caller names by its kind.
+-- Document 01, 'Frames', and document 02, request 4, in the octets of a frame: what a clear frame holds, and what a secured frame holds under
+-- the service that made it. Header and trailer are those of the form (`Forms`) that the caller names by its kind, and of the check field
+-- that the caller says to be there.
 -- Assumes nothing.
 use Prim.Native.Nat.{ℕ, _+_, _-_, _≤_, _<_}
 use mathlib.Core.Path.{_≡_}
-use mathlib.Core.Bool.{cond}
+use mathlib.Core.Bool.{true, cond}
 use mathlib.Core.List.{List, _++_}
 use lib.Dec.{eqb}
 use lib.ListN.{length, take, drop}
 use lib.Seq.{slice}
 use Rattle.octets.specs.Lists.{octet}
-use Rattle.octets.specs.Numbers.{numberAt}
+use Rattle.octets.specs.Numbers.{numberAt, bytes}
+use Rattle.check_field.specs.CheckField.{checkField}
 use Rattle.cmac.specs.Mac.{cmac}
 use Rattle.gcm.specs.Decryption.{plaintext}
 use Rattle.gcm.specs.Encryption.{ciphertext, tag}
@@ -19,12 +21,22 @@ use Rattle.promises.specs.Forms.{formSaid, underMask}
 abbrev pub headerSize : Said → List ℕ → ℕ
 headerSize said frame = formSaid said .header frame
 
-abbrev pub trailerSize : Said → List ℕ → ℕ
-trailerSize said frame = formSaid said .trailer frame
+-- the check field has 2 octets, where it is present
+abbrev pub checkFieldSize : Said → ℕ
+checkFieldSize said = cond (said .checkField) 2 0
 
--- the frame without the operational control field, if it has one
+abbrev pub trailerSize : Said → List ℕ → ℕ
+trailerSize said frame = formSaid said .trailer frame + checkFieldSize said
+
+-- the frame without its check field, if it has one; and without the operational control field before that, if it has one
+abbrev pub beforeField : Said → List ℕ → ℕ
+beforeField said frame = length frame - checkFieldSize said
+
 abbrev pub beforeTrailer : Said → List ℕ → ℕ
 beforeTrailer said frame = length frame - trailerSize said frame
+
+abbrev pub controlOn : Said → List ℕ → List ℕ
+controlOn said frame = slice (beforeTrailer said frame) (beforeField said frame) frame
 
 -- ---- a clear frame
 
@@ -84,10 +96,16 @@ pub record FrameRules (said : Said) (frame : List ℕ) (least : ℕ) : Type 0 wh
   pub header : formSaid said .Header frame
   pub largest : length frame ≤ formSaid said .largest
   pub smallest : headerSize said frame + least + trailerSize said frame ≤ length frame
+  pub ending : said .checkField ≡ true → formSaid said .mayEndInField ≡ true
+
+-- answer 12: a check field is that of all octets before it, as the standard gives it, the high octet first
+pub record RightField (said : Said) (frame : List ℕ) : Type 0 where
+  pub right : said .checkField ≡ true → drop (beforeField said frame) frame ≡ bytes 2 (checkField (take (beforeField said frame) frame))
 
 -- ---- the secured frame of a clear one
 
--- the length rewritten, the other header octets and the trailer copied, and between them the SPI, the number, the data and its MAC
+-- the length rewritten, the other header octets and the operational control field copied, between them the SPI, the number, the data and its
+-- MAC, and at the end the check field of all that
 pub record SecuredFrom (service : ℕ) (said : Said) (spi n : ℕ) (mask key clear frame : List ℕ) : Type 0 where
   pub size : length frame ≡ length clear + securitySize service + 16
   pub rules : FrameRules said frame 2
@@ -96,4 +114,5 @@ pub record SecuredFrom (service : ℕ) (said : Said) (spi n : ℕ) (mask key cle
   pub number : numberOn service said frame ≡ n
   pub text : textOn service said frame ≡ goingOut service key (fieldOn service said frame) (dataInClear said clear)
   pub mac : macOn said frame ≡ rightMac service said mask key frame
-  pub trailer : drop (beforeTrailer said frame) frame ≡ drop (beforeTrailer said clear) clear
+  pub control : controlOn said frame ≡ controlOn said clear
+  pub field : RightField said frame

@@ -6,6 +6,7 @@ pub mod Images
 pub mod Isolation
 pub mod Leaves
 pub mod NoPadding
+pub mod OneBit
 pub mod Refusals
 pub mod RoundTrip
 pub mod Runs

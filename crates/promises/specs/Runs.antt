@@ -19,8 +19,8 @@ use Rattle.promises.specs.Frames.{spiOn, numberOn}
 
 -- ---- a run
 
--- A load is handed any numbers. A sending has kind, SPI, frame and output, and a check kind, frame and output; either may be cut after j of
--- its stores, and the load that then comes is handed any numbers.
+-- A load is handed any numbers. A sending has what is said of the frame, SPI, frame and output, and a check the same without SPI; either may
+-- be cut after j of its stores, and the load that then comes is handed any numbers.
 pub data Step : Type 0 where
   load : List ℕ → Step
   send : Said → ℕ → List ℕ → List ℕ → Step

@@ -1,15 +1,19 @@
--- The secured frame in an output, piece behind piece: the two headers, the data as it goes out, the MAC and the trailer.
+-- The secured frame in an output, piece behind piece: the two headers, the data as it goes out, the MAC, the control field and the check
+-- field.
 -- Assumes nothing.
-use Prim.Native.Nat.{ℕ, _+_, _≤_}
+use Prim.Native.Nat.{ℕ, _+_, _-_, _≤_}
 use mathlib.Core.Path.{_≡_, ap, ap₂, sym, _∙_}
 use mathlib.Core.List.{List, _++_, append-assoc}
 use native.Mathlib.Omega.{arith}
 use lib.ListN.{length, take, drop, length-append, length-drop}
-use lib.Seq.{slice, take-at, drop-at}
-use Rattle.kinds.specs.Kinds.{Kind}
-use Rattle.frame.specs.Parts.{headerOf, trailerOf, securityOf, trailerStart}
+use lib.Seq.{slice, take-at, drop-at, drop-drop, drop-append-add}
+use Rattle.kinds.specs.Kinds.{Kind, checkFieldLength}
+use Rattle.frame.specs.Closing.{controlOf, closed}
+use Rattle.frame.specs.Parts.{headerOf, securityOf, trailerStart, controlEnd}
 use Rattle.kinds.proofs.Kept.{Lawful}
-use Rattle.frame.proofs.Room.{length-clear, length-trailer}
+use Rattle.frame.proofs.Assembled.{assembled}
+use Rattle.frame.proofs.Closed.{madeField, length-control, closed-made}
+use Rattle.frame.proofs.Room.{length-clear}
 use Rattle.octets.specs.Output.{written, fronted}
 use Rattle.octets.proofs.Filling.{length-written, with-room, behind}
 use Rattle.association.specs.declared.held.Held.{Held}
@@ -28,6 +32,15 @@ pub record Securing : Type 0 where
   pub out : List ℕ
   pub parted : kind .header frame + kind .trailer frame ≤ length frame
   pub roomy : securedLength held frame ≤ length out
+
+-- a text over a shorter one hides it
+written-over : (t u out : List ℕ) → length t ≤ length u → written u (written t out) ≡ written u out
+written-over t u out h =
+    let n : ℕ = length u - length t in
+    let e : length u ≡ length t + n = omega arith in
+    ap (λ (x : ℕ). u ++ drop x (written t out)) e
+    ∙ ap (λ (r : List ℕ). u ++ r) (drop-append-add t (drop (length t) out) n ∙ drop-drop n (length t) out)
+    ∙ ap (λ (x : ℕ). u ++ drop x out) (sym e)
 
 -- ---- the text so far: the headers, then the data, then the MAC
 
@@ -51,6 +64,9 @@ mac s = wire.mac (s .held) (s .kind) (s .spi) (s .number) (s .frame)
 
 abbrev pub to-mac : Securing → List ℕ
 to-mac s = to-text s ++ mac s
+
+abbrev pub to-control : Securing → List ℕ
+to-control s = to-mac s ++ controlOf (s .kind) (s .frame)
 
 module _ (s : Securing) where
   abbrev k : Kind
@@ -86,6 +102,16 @@ module _ (s : Securing) where
       let b = length-to-text in
       let c = wire.length-mac (s .held) k (s .spi) (s .number) (s .frame) in
       omega arith
+
+  control-long : length (controlOf k (s .frame)) + checkFieldLength (k .endsInField) ≡ k .trailer (s .frame)
+  control-long = length-control k (s .frame) (s .parted) (s .law .counted (s .frame))
+
+  length-to-control : length (to-control s) ≡ controlEnd k (s .frame) + securityLength (s .held) + 16
+  length-to-control =
+      let a = length-append (to-mac s) (controlOf k (s .frame)) in
+      let b = length-to-mac in
+      let c = control-long in
+      omega (arith, s .parted)
 
   -- the pieces so far fit, so the output keeps its length
   long : (t whole : List ℕ) → whole ≡ written t (s .out) → length t ≤ securedLength (s .held) (s .frame) → length whole ≡ length (s .out)
@@ -166,14 +192,29 @@ module _ (s : Securing) where
       pub long-mac : length whole ≡ length (s .out)
       long-mac = let l = length-to-mac in long (to-mac s) whole w (omega (arith, s .parted))
 
-      all-pieces : to-mac s ++ trailerOf k (s .frame) ≡ securedFrame (s .held) k (s .spi) (s .number) (s .frame)
-      unfolding securedFrame
-      all-pieces = simp append-assoc
+      pub with-control : (piece result : List ℕ) → piece ≡ controlOf k (s .frame) → (a : ℕ) → a ≡ afterText + 16
+          → result ≡ take a whole ++ fronted piece (drop a whole) → result ≡ written (to-control s) (s .out)
+      with-control piece result e a f r =
+          let c = control-long in
+          next whole piece result a (to-mac s) (controlOf k (s .frame)) w (length-to-mac ∙ sym f) (omega (arith, s .roomy, s .parted)) e r
 
-      pub with-trailer : (piece result : List ℕ) → piece ≡ trailerOf k (s .frame) → (a : ℕ) → a ≡ afterText + 16
-          → result ≡ take a whole ++ fronted piece (drop a whole)
+    module _ (w : whole ≡ written (to-control s) (s .out)) where
+      pub long-control : length whole ≡ length (s .out)
+      long-control = let l = length-to-control in long (to-control s) whole w (omega (arith, s .parted))
+
+      -- closing what stands closes all the pieces
+      pub with-field : (a : ℕ) → a ≡ controlEnd k (s .frame) + securityLength (s .held) + 16 → (result : List ℕ)
+          → result ≡ written (closed k (take a whole)) whole
           → result ≡ written (securedFrame (s .held) k (s .spi) (s .number) (s .frame)) (s .out)
-      with-trailer piece result e a f r =
-          let c = length-trailer k (s .frame) (s .parted) in
-          next whole piece result a (to-mac s) (trailerOf k (s .frame)) w (length-to-mac ∙ sym f) (omega (arith, s .roomy, s .parted)) e r
-          ∙ ap (λ (t : List ℕ). written t (s .out)) all-pieces
+      unfolding securedFrame
+      with-field a e result r =
+          let front : take a whole ≡ to-control s =
+          ap (take a) w ∙ take-at (to-control s) (drop (length (to-control s)) (s .out)) a (length-to-control ∙ sym e)
+          in
+          let pieces : to-control s ≡ assembled (header s) (security s) (text s) (mac s) (controlOf k (s .frame)) = simp append-assoc in
+          let over = length-append (to-control s) (madeField k (to-control s)) in
+          r
+          ∙ ap (λ (t : List ℕ). written (closed k t) whole) front
+          ∙ ap (written (closed k (to-control s))) w
+          ∙ written-over (to-control s) (closed k (to-control s)) (s .out) (omega (arith, ap length (closed-made k (to-control s))))
+          ∙ ap (λ (t : List ℕ). written (closed k t) (s .out)) pieces

@@ -8,10 +8,10 @@ use native.Mathlib.Nat.{add-sub-cancel-left}
 use native.Mathlib.Omega.{arith}
 use lib.ListN.{length, take, drop, replicate, length-append}
 use lib.Seq.{slice, length-slice, length-take-le, take-at}
-use Rattle.kinds.specs.Kinds.{Kind, kindIs}
+use Rattle.kinds.specs.Kinds.{Kind, framed}
 use Rattle.frame.specs.Masked.{masked, maskedHeader}
 use Rattle.frame.specs.Parts.{headerOf, securityOf}
-use Rattle.kinds.specs.declared.kinds.Kind as code
+use Rattle.kinds.specs.declared.framing.Framing.{Framing}
 use Rattle.frame.proofs.Masking.{length-masked}
 use Rattle.kinds.proofs.Sizes.{header-most}
 use Rattle.octets.specs.Output.{written, fronted}
@@ -68,21 +68,21 @@ module _ (k : Kind) (mask frame out : List ℕ) (h s : ℕ) (e : h ≡ k .header
 
 -- ---- in an array of twenty octets, under what an association holds
 
-module _ (h : Held) (kind : code.Kind) (frame : List ℕ) where
-  pub at-most-twenty : kindIs kind .header frame + securityLength h ≤ 20
-  at-most-twenty = let m = header-most kind frame in let f = lawful (h .service) .short in omega arith
+module _ (h : Held) (framing : Framing) (frame : List ℕ) where
+  pub at-most-twenty : framed framing .header frame + securityLength h ≤ 20
+  at-most-twenty = let m = header-most (framing .kind) frame in let f = lawful (h .service) .short in omega arith
 
-  module _ (s : ℕ) (e : s ≡ securityLength h) (fits : kindIs kind .header frame + s ≤ length frame) (whole : List ℕ)
-      (w : whole ≡ written (masked (h .mask) (headerOf (kindIs kind) frame) ++ securityOf (kindIs kind) s frame) (replicate 20 0)) where
+  module _ (s : ℕ) (e : s ≡ securityLength h) (fits : framed framing .header frame + s ≤ length frame) (whole : List ℕ)
+      (w : whole ≡ written (masked (h .mask) (headerOf (framed framing) frame) ++ securityOf (framed framing) s frame) (replicate 20 0)) where
     pub twenty : length whole ≡ 20
     twenty =
         let t = at-most-twenty in
-        long-covered (kindIs kind) (h .mask) frame (replicate 20 0) (kindIs kind .header frame) s refl fits (omega arith) whole w
+        long-covered (framed framing) (h .mask) frame (replicate 20 0) (framed framing .header frame) s refl fits (omega arith) whole w
 
-    pub front : take (kindIs kind .header frame + s) whole
-        ≡ coveredIn h (kindIs kind) frame
+    pub front : take (framed framing .header frame + s) whole
+        ≡ coveredIn h (framed framing) frame
     unfolding coveredBefore
     front =
         let t = at-most-twenty in
-        front-covered (kindIs kind) (h .mask) frame (replicate 20 0) (kindIs kind .header frame) s refl fits (omega arith) whole w
-        ∙ ap (λ (x : ℕ). masked (h .mask) (headerOf (kindIs kind) frame) ++ securityOf (kindIs kind) x frame) e
+        front-covered (framed framing) (h .mask) frame (replicate 20 0) (framed framing .header frame) s refl fits (omega arith) whole w
+        ∙ ap (λ (x : ℕ). masked (h .mask) (headerOf (framed framing) frame) ++ securityOf (framed framing) x frame) e

@@ -9,7 +9,7 @@ use lib.Seq.{slice, length-slice}
 use Rattle.octets.specs.Lists.{part}
 use Rattle.octets.proofs.Parts.{part-inside}
 use Rattle.key_schedule.specs.KeyExpansion.{keyExpansion}
-use Rattle.kinds.specs.Kinds.{Kind, kindIs}
+use Rattle.kinds.specs.Kinds.{Kind, framed}
 use Rattle.frame.specs.Parts.{macStart, trailerStart, securedParts, securityOf, securedContent, macOf}
 use Rattle.frame.specs.declared.parts.SecuredParts.{SecuredParts}
 use Rattle.association.specs.declared.held.Held.{Held}
@@ -22,7 +22,7 @@ use Rattle.protection.proofs.Slices.{slice-as-part}
 
 -- where the parts of an opened frame end: one behind the other, inside the frame
 pub record Placed (o : Opening) (frame : List ℕ) : Type 0 where
-  pub header : o .parts .header ≡ kindIs (o .kind) .header frame
+  pub header : o .parts .header ≡ framed (o .framing) .header frame
   pub security : o .parts .security ≡ o .parts .header + securityLength (o .held)
   pub text : o .parts .security + 1 ≤ o .parts .content
   pub mac : o .parts .content + 16 ≤ length frame
@@ -33,7 +33,7 @@ module _ (o : Opening) (frame : List ℕ) (s : Opens o frame) where
   h = o .held
 
   abbrev k : Kind
-  k = kindIs (o .kind)
+  k = framed (o .framing)
 
   abbrev p : SecuredParts
   p = o .parts

@@ -1,8 +1,9 @@
 -- What a secured frame is to its reader: it has the length that was promised, obeys its kind, keeps the clear frame's identifiers, and
--- holds the SPI, the number, a right MAC and the clear data, under any service and any kind.
+-- holds the SPI, the number, a right MAC, the clear data, the clear frame's control field and a right check field, under any service and any
+-- kind.
 -- Assumes nothing.
 use Prim.Native.Nat.{ℕ, _+_, _^_, _≤_, _<_}
-use mathlib.Core.Path.{_≡_, refl, sym, ap, ap₂, _∙_}
+use mathlib.Core.Path.{_≡_, sym, ap, ap₂, _∙_}
 use mathlib.Core.Bool.{true, false}
 use mathlib.Core.List.{List, _++_, append-assoc}
 use native.Mathlib.Omega.{arith}
@@ -15,13 +16,15 @@ use Rattle.octets.proofs.Numbers.{length-bytes, number-bytes, number-front, num
 use Rattle.octets.proofs.Sameness.{same-refl}
 use Rattle.kinds.specs.Kinds.{Kind}
 use Rattle.frame.specs.Parts as parts
-use Rattle.frame.specs.Parts.{headerOf, trailerOf, securityOf, securedContent, macOf, tooShort}
+use Rattle.frame.specs.Closing.{controlOf, fieldOk}
+use Rattle.frame.specs.Parts.{headerOf, securityOf, securedContent, macOf, tooShort}
 use Rattle.frame.specs.Rules.{obeys}
 use Rattle.frame.proofs.Assembled as assembled
 use Rattle.kinds.proofs.Kept as frames
 use Rattle.kinds.proofs.Kept.{Kept, built}
 use Rattle.frame.proofs.Rebuilt.{obeys-again}
-use Rattle.frame.proofs.Room.{Obeys, obeyed, length-header, length-trailer}
+use Rattle.frame.proofs.Closed.{madeField, length-made, length-control, closed-ok, closed-assembled}
+use Rattle.frame.proofs.Room.{Obeys, obeyed, length-header}
 use Rattle.association.specs.declared.held.Held.{Held}
 use Rattle.services.specs.SecurityHeader.{serviceIn, securityLength, fieldFor, numberFrom}
 use Rattle.protection.specs.Protection.{coveredBefore, securedLength, securedFrame}
@@ -59,6 +62,21 @@ abbrev pub mac : Held → Kind → ℕ → ℕ → List ℕ → List ℕ
 mac h k spi n clear =
     serviceIn h .mac (h .key) (fieldFor h n) (coveredBefore h (head h k clear) (security h spi n)) (text h k n clear)
 
+-- all but the check field, and the trailer that it closes: the control field, copied, and the check field, made
+abbrev front : Held → Kind → ℕ → ℕ → List ℕ → List ℕ
+front h k spi n clear =
+    assembled.assembled (head h k clear) (security h spi n) (text h k n clear) (mac h k spi n clear) (controlOf k clear)
+
+abbrev trailer : Held → Kind → ℕ → ℕ → List ℕ → List ℕ
+trailer h k spi n clear = controlOf k clear ++ madeField k (front h k spi n clear)
+
+as-assembled : (h : Held) (k : Kind) (spi n : ℕ) (clear : List ℕ)
+    → securedFrame h k spi n clear
+    ≡ assembled.assembled (head h k clear) (security h spi n) (text h k n clear) (mac h k spi n clear) (trailer h k spi n clear)
+unfolding securedFrame
+as-assembled h k spi n clear =
+    closed-assembled k (head h k clear) (security h spi n) (text h k n clear) (mac h k spi n clear) (controlOf k clear)
+
 pub length-security : (h : Held) (spi n : ℕ) → length (security h spi n) ≡ securityLength h
 length-security h spi n = length-append (bytes 2 spi) (fieldFor h n) ∙ ap₂ _+_ (length-bytes 2 spi) (length-bytes (serviceIn h .field) n)
 
@@ -73,11 +91,18 @@ module _ (h : Held) (k : Kind) (law : frames.Lawful k) (clear : List ℕ) (room 
   pub length-head : length (head h k clear) ≡ k .header clear
   length-head = law .long (securedLength h clear) (headerOf k clear) ∙ length-header k clear room
 
+  length-trailer : (spi n : ℕ) → length (trailer h k spi n clear) ≡ k .trailer clear
+  length-trailer spi n =
+      let a = length-append (controlOf k clear) (madeField k (front h k spi n clear)) in
+      let b = length-control k clear room (law .counted clear) in
+      let c = length-made k (front h k spi n clear) in
+      omega arith
+
   pub length-whole : (spi n : ℕ) → length (securedFrame h k spi n clear) ≡ securedLength h clear
-  unfolding securedFrame
   length-whole spi n =
-      assembled.length-securing k clear (head h k clear) (security h spi n) (text h k n clear) (mac h k spi n clear) room length-head
-      (length-text h k n clear) (length-mac h k spi n clear)
+      ap length (as-assembled h k spi n clear)
+      ∙ assembled.length-securing k clear (head h k clear) (security h spi n) (text h k n clear) (mac h k spi n clear)
+      (trailer h k spi n clear) room length-head (length-text h k n clear) (length-mac h k spi n clear) (length-trailer spi n)
       ∙ ap (λ (s : ℕ). parts.securedLength s clear) (length-security h spi n)
 
 -- ---- a secured frame, under any lawful kind
@@ -97,11 +122,11 @@ module _ (h : Held) (k : Kind) (lawfully : frames.Lawful k) (spi n : ℕ) (clear
   room = omega (arith, ok .room)
 
   rest : List ℕ
-  rest = security h spi n ++ (text h k n clear ++ (mac h k spi n clear ++ trailerOf k clear))
+  rest = security h spi n ++ (text h k n clear ++ (mac h k spi n clear ++ trailer h k spi n clear))
 
   shape : S ≡ head h k clear ++ rest
-  unfolding securedFrame rest
-  shape = refl
+  unfolding rest
+  shape = as-assembled h k spi n clear
 
   long-mac : length (mac h k spi n clear) ≡ 16
   long-mac = length-mac h k spi n clear
@@ -127,43 +152,56 @@ module _ (h : Held) (k : Kind) (lawfully : frames.Lawful k) (spi n : ℕ) (clear
 
   -- ---- the parts, as a reader cuts them out
 
-  at-head : length (head h k clear) ≡ k .header S
-  at-head = length-head h k lawfully clear room ∙ sym (kept .header)
+  -- as it is assembled, with the trailer that it is closed with
+  abbrev A : List ℕ
+  A = assembled.assembled (head h k clear) (security h spi n) (text h k n clear) (mac h k spi n clear) (trailer h k spi n clear)
 
-  at-trailer : length (trailerOf k clear) ≡ k .trailer S
-  at-trailer = length-trailer k clear room ∙ sym (kept .trailer)
+  is-A : S ≡ A
+  is-A = as-assembled h k spi n clear
+
+  at-head : length (head h k clear) ≡ k .header A
+  at-head = length-head h k lawfully clear room ∙ sym (kept .header) ∙ ap (k .header) is-A
+
+  at-trailer : length (trailer h k spi n clear) ≡ k .trailer A
+  at-trailer = length-trailer h k lawfully clear room spi n ∙ sym (kept .trailer) ∙ ap (k .trailer) is-A
 
   pub header-read : headerOf k S ≡ head h k clear
-  unfolding securedFrame
   header-read =
-      assembled.header-read k (head h k clear) (security h spi n) (text h k n clear) (mac h k spi n clear) (trailerOf k clear) at-head
+      ap (headerOf k) is-A
+      ∙ assembled.header-read k (head h k clear) (security h spi n) (text h k n clear) (mac h k spi n clear) (trailer h k spi n clear) at-head
       long-mac at-trailer
 
   security-read : securityOf k (securityLength h) S ≡ security h spi n
-  unfolding securedFrame
   security-read =
       ap (λ (s : ℕ). securityOf k s S) (sym (length-security h spi n))
-      ∙ assembled.security-read k (head h k clear) (security h spi n) (text h k n clear) (mac h k spi n clear) (trailerOf k clear) at-head
+      ∙ ap (securityOf k (length (security h spi n))) is-A
+      ∙ assembled.security-read k (head h k clear) (security h spi n) (text h k n clear) (mac h k spi n clear) (trailer h k spi n clear) at-head
       long-mac at-trailer
 
   pub text-read : textIn h k S ≡ text h k n clear
-  unfolding securedFrame textIn
+  unfolding textIn
   text-read =
       ap (λ (s : ℕ). securedContent k s S) (sym (length-security h spi n))
-      ∙ assembled.text-read k (head h k clear) (security h spi n) (text h k n clear) (mac h k spi n clear) (trailerOf k clear) at-head
+      ∙ ap (securedContent k (length (security h spi n))) is-A
+      ∙ assembled.text-read k (head h k clear) (security h spi n) (text h k n clear) (mac h k spi n clear) (trailer h k spi n clear) at-head
       long-mac at-trailer
 
   mac-read : macOf k S ≡ mac h k spi n clear
-  unfolding securedFrame
   mac-read =
-      assembled.mac-read k (head h k clear) (security h spi n) (text h k n clear) (mac h k spi n clear) (trailerOf k clear) at-head long-mac
-      at-trailer
-
-  pub trailer-read : trailerOf k S ≡ trailerOf k clear
-  unfolding securedFrame
-  trailer-read =
-      assembled.trailer-read k (head h k clear) (security h spi n) (text h k n clear) (mac h k spi n clear) (trailerOf k clear) at-head
+      ap (macOf k) is-A
+      ∙ assembled.mac-read k (head h k clear) (security h spi n) (text h k n clear) (mac h k spi n clear) (trailer h k spi n clear) at-head
       long-mac at-trailer
+
+  -- the control field is copied, and the check field is right
+  pub control-read : controlOf k S ≡ controlOf k clear
+  control-read =
+      ap (controlOf k) is-A
+      ∙ assembled.control-read k (head h k clear) (security h spi n) (text h k n clear) (mac h k spi n clear) (controlOf k clear)
+      (madeField k (front h k spi n clear)) at-head long-mac at-trailer (length-made k (front h k spi n clear))
+
+  pub field-right : fieldOk k S ≡ true
+  unfolding securedFrame
+  field-right = closed-ok k (front h k spi n clear)
 
   pub field-read : fieldIn h k S ≡ fieldFor h n
   unfolding fieldIn
@@ -197,7 +235,7 @@ module _ (h : Held) (k : Kind) (lawfully : frames.Lawful k) (spi n : ℕ) (clear
   pub spi-secured : spi < 2 ^ 16 → spiIn k S ≡ spi
   unfolding rest
   spi-secured small-spi =
-      ap (number 2) (ap (drop (k .header S)) shape ∙ drop-at (head h k clear) rest (k .header S) at-head ∙ append-assoc (bytes 2 spi) _ _)
+      ap (number 2) (ap (drop (k .header S)) shape ∙ drop-at (head h k clear) rest (k .header S) (at-head ∙ ap (k .header) (sym is-A)) ∙ append-assoc (bytes 2 spi) _ _)
       ∙ number-front 2 (bytes 2 spi) _ (length-bytes 2 spi)
       ∙ number-bytes 2 spi (omega arith)
 

@@ -1,5 +1,6 @@
 -- Document 01, 'Frames': what securing makes of a clear frame, and what checking reads from a secured one, under what an association holds:
--- service, mask and key. The MAC covers the header (each octet ANDed with the mask), the security header and the data; not the OCF.
+-- service, mask and key. The MAC covers the header (each octet ANDed with the mask), the security header and the data; not
+-- the OCF, and not the check field, which is made last.
 -- Assumes nothing.
 use Prim.Native.Nat.{ℕ, _+_}
 use mathlib.Core.Bool.{Bool}
@@ -8,9 +9,10 @@ use lib.ListN.{length, drop}
 use Rattle.octets.specs.Numbers.{numberAt, bytes}
 use Rattle.octets.specs.Same.{same}
 use Rattle.kinds.specs.Kinds.{Kind}
+use Rattle.frame.specs.Closing.{controlOf, closed}
 use Rattle.frame.specs.Masked.{masked}
 use Rattle.frame.specs.Parts as parts
-use Rattle.frame.specs.Parts.{headerOf, trailerOf, headerEnd, securityOf, macOf}
+use Rattle.frame.specs.Parts.{headerOf, headerEnd, securityOf, macOf}
 use Rattle.association.specs.declared.held.Held.{Held}
 use Rattle.services.specs.SecurityHeader.{serviceIn, securityLength, fieldFor, numberFrom}
 
@@ -36,7 +38,7 @@ securedFrame h k spi n clear =
     let security = bytes 2 spi ++ field in
     let text = serviceIn h .goingOut (h .key) field (parts.clearContent k clear) in
     let mac = serviceIn h .mac (h .key) field (coveredBefore h header security) text in
-    header ++ (security ++ (text ++ (mac ++ trailerOf k clear)))
+    closed k (header ++ (security ++ (text ++ (mac ++ controlOf k clear))))
 
 -- ---- checking: what a secured frame holds
 

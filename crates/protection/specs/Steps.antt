@@ -5,9 +5,9 @@ use mathlib.Core.Path.{_≡_}
 use mathlib.Core.List.{List}
 use lib.ListN.{length}
 use Rattle.key_schedule.specs.KeyExpansion.{keyExpansion}
-use Rattle.kinds.specs.Kinds.{Kind, kindIs}
+use Rattle.kinds.specs.Kinds.{Kind, framed}
 use Rattle.frame.specs.Parts.{securedParts}
-use Rattle.kinds.specs.declared.kinds.Kind as code
+use Rattle.kinds.specs.declared.framing.Framing.{Framing}
 use Rattle.association.specs.declared.held.Held.{Held}
 use Rattle.services.specs.SecurityHeader.{securityLength}
 use Rattle.protection.specs.Protection.{securedLength}
@@ -22,17 +22,17 @@ pub record Securable (h : Held) (k : Kind) (frame : List ℕ) (room : ℕ) : Typ
 
 -- ---- a secured frame, opened: what is made once of it
 
-abbrev pub openingOf : code.Kind → Held → List ℕ → Opening
-openingOf kind h frame =
+abbrev pub openingOf : Framing → Held → List ℕ → Opening
+openingOf framing h frame =
     record {
-      kind = kind;
+      framing = framing;
       held = h;
       expanded = keyExpansion (h .key);
-      parts = securedParts (kindIs kind) (securityLength h) frame;
+      parts = securedParts (framed framing) (securityLength h) frame;
     }
 
 -- it has room for its parts and one octet of data: answers 3 and 5 are past
 pub record Opens (o : Opening) (frame : List ℕ) : Type 0 where
-  pub opened : o ≡ openingOf (o .kind) (o .held) frame
-  pub parted : kindIs (o .kind) .header frame + securityLength (o .held) + 17 + kindIs (o .kind) .trailer frame ≤ length frame
+  pub opened : o ≡ openingOf (o .framing) (o .held) frame
+  pub parted : framed (o .framing) .header frame + securityLength (o .held) + 17 + framed (o .framing) .trailer frame ≤ length frame
   pub small : length frame ≤ 2048

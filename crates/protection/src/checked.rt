@@ -4,7 +4,7 @@ use association::Held;
 use frame::SecuredParts;
 use frame::secured_parts;
 use key_schedule::expand_key;
-use kinds::Kind;
+use kinds::Framing;
 use octets::block_at;
 use services::Sequence;
 use services::mac_is_right;
@@ -14,27 +14,27 @@ use services::security_length;
 ghost use mathlib.Core.Path.{_≡_};
 ghost use Prim.Native.Nat.{_+_, _*_, _≤_};
 ghost use lib.ListN.{length};
-ghost use Rattle.kinds.specs.Kinds.{kindIs};
+ghost use Rattle.kinds.specs.Kinds.{framed};
 ghost use Rattle.octets.specs.Output.{written};
 ghost use Rattle.protection.specs.Protection.{numberIn, macRight, clearData, clearLength};
 ghost use Rattle.protection.specs.Steps.{openingOf, Opens};
 
-// What is made once of a secured frame: its kind, what protects it with its key expanded, and where its parts end.
+// What is made once of a secured frame: its framing, what protects it with its key expanded, and where its parts end.
 pub struct Opening {
-    pub kind: Kind,
+    pub framing: Framing,
     pub held: Held,
     pub expanded: [u8; 240],
     pub parts: SecuredParts,
 }
 
-pub fn opening_of(kind: Kind, held: Held, frame: &[u8]) -> Opening
-    ensures { λ r. ⌜ r ≡ openingOf kind held (now (frame .entry)) ⌝ }
+pub fn opening_of(framing: Framing, held: Held, frame: &[u8]) -> Opening
+    ensures { λ r. ⌜ r ≡ openingOf framing held (now (frame .entry)) ⌝ }
 {
     let key = held.key;
     let expanded = expand_key(key);
-    let parts = secured_parts(kind, security_length(held.service), frame);
+    let parts = secured_parts(framing, security_length(held.service), frame);
     Opening {
-        kind,
+        framing,
         held,
         expanded,
         parts,
@@ -43,7 +43,7 @@ pub fn opening_of(kind: Kind, held: Held, frame: &[u8]) -> Opening
 
 pub fn clear_length(opening: Opening, frame: &[u8]) -> usize
     requires { ⌜ Opens opening (now frame) ⌝ }
-    ensures { λ r. ⌜ r ≡ clearLength (opening .held) (kindIs (opening .kind)) (now (frame .entry)) ⌝ }
+    ensures { λ r. ⌜ r ≡ clearLength (opening .held) (framed (opening .framing)) (now (frame .entry)) ⌝ }
 {
     let parts = opening.parts;
     parts.content - parts.security
@@ -51,7 +51,7 @@ pub fn clear_length(opening: Opening, frame: &[u8]) -> usize
 
 pub fn number_of(opening: Opening, frame: &[u8]) -> Sequence
     requires { ⌜ Opens opening (now frame) ⌝ }
-    ensures { λ r. ⌜ r .above * 4294967296 + r .number ≡ numberIn (opening .held) (kindIs (opening .kind)) (now (frame .entry)) ⌝ }
+    ensures { λ r. ⌜ r .above * 4294967296 + r .number ≡ numberIn (opening .held) (framed (opening .framing)) (now (frame .entry)) ⌝ }
 {
     let service = opening.held.service;
     let header = opening.parts.header;
@@ -62,9 +62,9 @@ pub fn number_of(opening: Opening, frame: &[u8]) -> Sequence
 // The whole MAC is compared, with no early exit.
 pub fn mac_right(opening: Opening, frame: &[u8]) -> bool
     requires { ⌜ Opens opening (now frame) ⌝ }
-    ensures { λ r. ⌜ r ≡ macRight (opening .held) (kindIs (opening .kind)) (now (frame .entry)) ⌝ }
+    ensures { λ r. ⌜ r ≡ macRight (opening .held) (framed (opening .framing)) (now (frame .entry)) ⌝ }
 {
-    let kind = opening.kind;
+    let framing = opening.framing;
     let held = opening.held;
     let expanded = opening.expanded;
     let mask = held.mask;
@@ -72,7 +72,7 @@ pub fn mac_right(opening: Opening, frame: &[u8]) -> bool
     let security = opening.parts.security;
     let content = opening.parts.content;
     let mut before: [u8; 20] = [0; 20];
-    let covered = cover(kind, mask, security - header, frame, &mut before);
+    let covered = cover(framing, mask, security - header, frame, &mut before);
     let mac = block_at(frame, content);
     mac_is_right(
         held,
@@ -86,8 +86,8 @@ pub fn mac_right(opening: Opening, frame: &[u8]) -> bool
 
 // The clear data to the front of the output.
 pub fn release_data(opening: Opening, frame: &[u8], output: &mut [u8])
-    requires { ⌜ Opens opening (now frame) × (clearLength (opening .held) (kindIs (opening .kind)) (now frame) ≤ length (now output)) ⌝ }
-    ensures { λ _. ⌜ now (output .exit) ≡ written (clearData (opening .held) (kindIs (opening .kind)) (now (frame .entry))) (now (output .entry)) ⌝ }
+    requires { ⌜ Opens opening (now frame) × (clearLength (opening .held) (framed (opening .framing)) (now frame) ≤ length (now output)) ⌝ }
+    ensures { λ _. ⌜ now (output .exit) ≡ written (clearData (opening .held) (framed (opening .framing)) (now (frame .entry))) (now (output .entry)) ⌝ }
 {
     let held = opening.held;
     let expanded = opening.expanded;

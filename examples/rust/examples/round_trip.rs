@@ -37,7 +37,7 @@ fn send(ground: &mut End, data: &[u8]) -> Result<Vec<u8>, Refusal> {
     let mut frame = vec![0, 27, 5 << 2, 5 + data.len() as u8 - 1, 0]; // the length field is the length less one
     frame.extend(data);
     let mut output = [0; 2048];
-    let done = secure(&mut ground.image, &mut ground.numbers, Kind::Tc, SPI, &frame, &mut output)?;
+    let done = secure(&mut ground.image, &mut ground.numbers, Kind::Tc, false, SPI, &frame, &mut output)?;
     let secured = output[..done.length].to_vec();
     let hex: String = secured.iter().map(|octet| format!(" {octet:02X}")).collect();
     println!("secure: 0, done; number {}, stores {}, frame{hex}", ground.numbers.last(0).unwrap_or(0), done.stores);
@@ -46,7 +46,7 @@ fn send(ground: &mut End, data: &[u8]) -> Result<Vec<u8>, Refusal> {
 
 fn receive(space: &mut End, what: &str, frame: &[u8]) {
     let mut output = [0; 2048];
-    match check(&mut space.image, &mut space.numbers, Kind::Tc, frame, &mut output) {
+    match check(&mut space.image, &mut space.numbers, Kind::Tc, false, frame, &mut output) {
         Ok(done) => {
             let data = String::from_utf8_lossy(&output[..done.length]);
             println!("{what}: 0, done; stores {}, data '{data}'", done.stores);

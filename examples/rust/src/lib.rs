@@ -34,6 +34,7 @@ pub enum Refusal {
     NumberRefused = 8,
     NumbersUsedUp = 10,
     SecuredTooLong = 11,
+    CheckFieldDiffers = 12,
 }
 
 impl Refusal {
@@ -55,6 +56,7 @@ impl Refusal {
             Refusal::NumberRefused => "number outside the window",
             Refusal::NumbersUsedUp => "numbers used up",
             Refusal::SecuredTooLong => "secured frame would be too long",
+            Refusal::CheckFieldDiffers => "check field differs",
         }
     }
 }
@@ -75,6 +77,7 @@ mod interface {
             numbers: *mut u32,
             numbers_length: usize,
             kind: u8,
+            check_field: u8,
             spi: u16,
             frame: *const u8,
             frame_length: usize,
@@ -87,6 +90,7 @@ mod interface {
             numbers: *mut u32,
             numbers_length: usize,
             kind: u8,
+            check_field: u8,
             frame: *const u8,
             frame_length: usize,
             output: *mut u8,
@@ -110,6 +114,7 @@ fn unpack(result: u64) -> Result<Done, Refusal> {
         8 => Refusal::NumberRefused,
         10 => Refusal::NumbersUsedUp,
         11 => Refusal::SecuredTooLong,
+        12 => Refusal::CheckFieldDiffers,
         other => unreachable!("the module has no answer {other}"),
     };
     Err(refusal)
@@ -123,8 +128,17 @@ pub fn load(image: &[u8]) -> Result<Numbers, Refusal> {
     unpack(result).map(|_| numbers)
 }
 
-/// Secures a clear frame under the association with this SPI; the secured frame fills the start of the output.
-pub fn secure(image: &mut [u8], numbers: &mut Numbers, kind: Kind, spi: u16, frame: &[u8], output: &mut [u8]) -> Result<Done, Refusal> {
+/// Secures a clear frame under the association with this SPI; the secured frame fills the start of the output, and ends in a check field if the
+/// clear one does.
+pub fn secure(
+    image: &mut [u8],
+    numbers: &mut Numbers,
+    kind: Kind,
+    check_field: bool,
+    spi: u16,
+    frame: &[u8],
+    output: &mut [u8],
+) -> Result<Done, Refusal> {
     // Safety: as for `load`; what is lent for writing is borrowed alone.
     unpack(unsafe {
         interface::xistalvo_secure(
@@ -133,6 +147,7 @@ pub fn secure(image: &mut [u8], numbers: &mut Numbers, kind: Kind, spi: u16, fra
             numbers.0.as_mut_ptr(),
             numbers.0.len(),
             kind as u8,
+            check_field as u8,
             spi,
             frame.as_ptr(),
             frame.len(),
@@ -143,7 +158,14 @@ pub fn secure(image: &mut [u8], numbers: &mut Numbers, kind: Kind, spi: u16, fra
 }
 
 /// Checks a secured frame; the clear data fills the start of the output.
-pub fn check(image: &mut [u8], numbers: &mut Numbers, kind: Kind, frame: &[u8], output: &mut [u8]) -> Result<Done, Refusal> {
+pub fn check(
+    image: &mut [u8],
+    numbers: &mut Numbers,
+    kind: Kind,
+    check_field: bool,
+    frame: &[u8],
+    output: &mut [u8],
+) -> Result<Done, Refusal> {
     // Safety: as for `secure`.
     unpack(unsafe {
         interface::xistalvo_check(
@@ -152,6 +174,7 @@ pub fn check(image: &mut [u8], numbers: &mut Numbers, kind: Kind, frame: &[u8], 
             numbers.0.as_mut_ptr(),
             numbers.0.len(),
             kind as u8,
+            check_field as u8,
             frame.as_ptr(),
             frame.len(),
             output.as_mut_ptr(),

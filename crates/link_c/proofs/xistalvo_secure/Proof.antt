@@ -3,8 +3,7 @@
 use mathlib.Core.List.{List}
 use Prim.Native.Nat.{ℕ}
 use Rattle.link.specs.Calls.{secured}
-use Rattle.judging.specs.Said.{saying}
-use Rattle.link_c.specs.Interface.{secureCall}
+use Rattle.link_c.specs.Interface.{told, secureCall}
 use Rattle.link_c.proofs.Returning.{returned, miscounted}
 use borrow.Author.Needs.{needs}
 use Rattle.link_c.proofs.xistalvo_secure.Statement.{statement}
@@ -14,7 +13,7 @@ returns : tie.Need-returns
 unfolding secureCall
 returns c =
     let g = c .before .before .before .before .before .before .before .args in
-    miscounted (λ (n : List ℕ). secured (g .image .now) n (saying (g .kind)) (g .spi) (g .frame .now) (g .output .now))
+    miscounted (λ (n : List ℕ). secured (g .image .now) n (told (g .kind) (g .field)) (g .spi) (g .frame .now) (g .output .now))
     (g .image .now) (g .numbers .now) (g .output .now)
     (c .before .before .if1 .taken)
     (c .refuse-count .ensures)
@@ -25,7 +24,7 @@ returns-2 c =
     let at-secure = c .before .before .before .before .before .before .before .before .before in
     let at-else = at-secure .before .before .before .before .before in
     let g = at-else .before .before .before .before .before .args in
-    returned (λ (n : List ℕ). secured (g .image .now) n (saying (g .kind)) (g .spi) (g .frame .now) (g .output .now))
+    returned (λ (n : List ℕ). secured (g .image .now) n (told (g .kind) (g .field)) (g .spi) (g .frame .now) (g .output .now))
     (g .image .now) (g .numbers .now) (g .output .now)
     (at-secure .secure .result)
     (at-else .if1 .left)

@@ -7,7 +7,7 @@ use native.Mathlib.Nat.{min-le-right}
 use native.Mathlib.Omega.{arith}
 use lib.ListN.{length, take, drop, length-set}
 use Rattle.octets.proofs.Filling.{front-more}
-use Rattle.kinds.specs.Kinds.{kindIs}
+use Rattle.kinds.specs.Kinds.{framed}
 use Rattle.frame.specs.Masked.{masked}
 use Rattle.frame.proofs.Masking.{length-masked}
 use Rattle.frame.proofs.Fronting.{with-room, without-room, refused, told}
@@ -23,15 +23,15 @@ abbrev μ-loop : tie.MeasureT-loop
 μ-loop mask frame out₀ count i₀ out i = count - i
 
 counted : (c : tie.After-lesser Inv-loop μ-loop) → let given = c .before .before .before .before .before .args in
-    c .lesser .result ≡ min (kindIs (given .kind) .header (given .frame .now)) (length (given .frame .now))
+    c .lesser .result ≡ min (framed (given .framing) .header (given .frame .now)) (length (given .frame .now))
 counted c = rw (← c .before .header-length .ensures) (c .lesser .ensures)
 
 returns : tie.Need-returns Inv-loop μ-loop
 returns c =
     let g = c .before .before .before .before .before .before .args in
     let count = c .before .lesser .result in (
-      refused (kindIs (g .kind)) (g .mask .now) (g .frame .now) (g .out .now) count (counted (c .before)) (c .if1 .taken),
-      without-room (kindIs (g .kind)) (g .mask .now) (g .frame .now) (g .out .now) count (counted (c .before)) (c .if1 .taken),
+      refused (framed (g .framing)) (g .mask .now) (g .frame .now) (g .out .now) count (counted (c .before)) (c .if1 .taken),
+      without-room (framed (g .framing)) (g .mask .now) (g .frame .now) (g .out .now) count (counted (c .before)) (c .if1 .taken),
     )
 
 loop-holds : tie.Need-loop-holds Inv-loop μ-loop
@@ -42,7 +42,7 @@ loop-again c =
     let start = c .before .before .before .before in
     let g = start .before .before .before .before .before .args in
     let at-loop = c .before .before .loop in
-    let whole = min-le-right (kindIs (g .kind) .header (g .frame .now)) (length (g .frame .now)) in (
+    let whole = min-le-right (framed (g .framing) .header (g .frame .now)) (length (g .frame .now)) in (
       omega arith,
       simp length-set (at-loop .inv .1),
       rw (at-loop .inv .2, c .masked-octet .ensures)
@@ -56,9 +56,9 @@ returns-2 c =
     let g = start .before .before .before .before .before .args in
     let count = start .lesser .result in
     let e : c .before .loop .i ≡ count = omega arith in (
-      told (kindIs (g .kind)) (g .mask .now) (g .frame .now) (g .out .now) count (counted start) (omega arith),
+      told (framed (g .framing)) (g .mask .now) (g .frame .now) (g .out .now) count (counted start) (omega arith),
       c .before .loop .inv .2
-          ∙ rw e (with-room (kindIs (g .kind)) (g .mask .now) (g .frame .now) (g .out .now) count (counted start) (omega arith)),
+          ∙ rw e (with-room (framed (g .framing)) (g .mask .now) (g .frame .now) (g .out .now) count (counted start) (omega arith)),
     )
 
 pub mask-header-spec : {M : Type 1} → statement M

@@ -6,10 +6,10 @@ use borrow.Author.Needs.{needs}
 use Rattle.frame.proofs.parts.secured_parts.Statement.{statement}
 use Rattle.frame.proofs.parts.secured_parts.Tie as tie
 
-add-t7 : tie.Need-add-t7
-add-t7 c =
+add-t8 : tie.Need-add-t8
+add-t8 c =
     let given = c .before .before .before .before .args in
-    record { fits = omega (arith, header-short (given .kind) (given .frame .now)) }
+    record { fits = omega (arith, header-short (given .framing .kind) (given .frame .now)) }
 
 returns : tie.Need-returns
 returns c =
@@ -18,5 +18,5 @@ returns c =
 pub secured-parts-spec : {M : Type 1} → statement M
 secured-parts-spec =
     tie.close
-    (tie.spec (λ c κs. search needs) (λ c κs. search needs) (λ c κs. search needs) add-t7 (λ c κs. search needs)
+    (tie.spec (λ c κs. search needs) (λ c κs. search needs) (λ c κs. search needs) add-t8 (λ c κs. search needs)
     returns)

@@ -10,7 +10,7 @@ use Rattle.frame.proofs.parts.too_short.Tie as tie
 bounds : (c : tie.After-trailer-length) → (c .before .header-length .result < 256) × (c .trailer-length .result < 256)
 bounds c =
     let given = c .before .before .before .args in
-    (omega (arith, header-short (given .kind) (given .frame .now)), omega (arith, trailer-short (given .kind) (given .frame .now)))
+    (omega (arith, header-short (given .framing .kind) (given .frame .now)), omega (arith, trailer-short (given .framing) (given .frame .now)))
 
 add-result : tie.Need-add-result
 add-result c = record { fits = omega (arith, bounds c) }

@@ -7,7 +7,7 @@ use Rattle.frame.proofs.rules.obeys.Tie as tie
 
 returns : tie.Need-returns
 returns c =
-    rw (← c .before .before .before .before .kind-of .ensures, c .before .before .kind .given .1) (c .kind-obeyed .ensures)
+    rw (← c .before .before .before .before .kind-of .ensures, c .before .before .kind .given .1) (c .framing-obeyed .ensures)
 
 returns-2 : tie.Need-returns-2
 unfolding obeys

@@ -4,7 +4,7 @@
 use mathlib.Core.Path.{_≡_, refl, sym, ap, _∙_}
 use mathlib.Core.Bool.{true}
 use native.Mathlib.Omega.{arith}
-use Rattle.kinds.specs.Kinds.{kindBehind}
+use Rattle.kinds.specs.Kinds.{kindBehind, withCheckField}
 use Rattle.kinds.specs.declared.kinds.Named.{Named}
 use Rattle.frame.specs.Rules.{obeys}
 use Rattle.image.specs.Image.{validImage}
@@ -23,7 +23,7 @@ abbrev start : tie.After-test-standing → tie.Start
 start c = c .before .before .before
 
 abbrev wants : tie.After-test-standing → Wanted
-wants c = let g = start c .args in wanted (g .spi) (g .direction) (saying (g .number)) (g .frame .now)
+wants c = let g = start c .args in wanted (g .spi) (g .direction) (saying (g .number) (g .field)) (g .frame .now)
 
 -- past 1 and 2
 well : (c : tie.After-enum-told3) → let g = start (c .before .before) .args in
@@ -44,7 +44,7 @@ returns c =
     let d = c .before .before in
     let g = start d .args in
     refuses answer.BadImage _ 1 refl (omega arith)
-    (by-1 (g .image .now) (g .numbers .last) (wants d) (saying (g .number)) (g .frame .now) (g .secured)
+    (by-1 (g .image .now) (g .numbers .last) (wants d) (saying (g .number) (g .field)) (g .frame .now) (g .secured)
     (broken (g .image .now) (g .numbers .last) (sym (d .test-standing .ensures) ∙ c .enum-told .given .1)))
 
 returns-2 : tie.Need-returns-2
@@ -53,7 +53,7 @@ returns-2 c =
     let g = start d .args in
     let w = disagreeing (g .image .now) (g .numbers .last) (sym (d .test-standing .ensures) ∙ c .enum-told2 .given .1) in
     refuses answer.BadMarks _ 2 refl (omega arith)
-    (by-2 (g .image .now) (g .numbers .last) (wants d) (saying (g .number)) (g .frame .now) (g .secured) (w .0) (w .1))
+    (by-2 (g .image .now) (g .numbers .last) (wants d) (saying (g .number) (g .field)) (g .frame .now) (g .secured) (w .0) (w .1))
 
 returns-4 : tie.Need-returns-4
 unfolding obeys
@@ -63,8 +63,8 @@ returns-4 c =
     let g = start d .args in
     let none = sym (start d .pre) ∙ c .enum-told4 .given .1 in
     refuses answer.BadFrame _ 3 refl (omega arith)
-    (by-3 (g .image .now) (g .numbers .last) (wants d) (saying (g .number)) (g .frame .now) (g .secured) (w .0) (w .1)
-    (ap (λ (x : Named). obeys (kindBehind x) (g .frame .now) (g .secured)) none))
+    (by-3 (g .image .now) (g .numbers .last) (wants d) (saying (g .number) (g .field)) (g .frame .now) (g .secured) (w .0) (w .1)
+    (ap (λ (x : Named). obeys (withCheckField (g .field) (kindBehind x)) (g .frame .now) (g .secured)) none))
 
 pub admit-spec : {M : Type 1} → statement M
 admit-spec =

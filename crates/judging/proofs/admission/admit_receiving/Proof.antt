@@ -17,7 +17,7 @@ returns : tie.Need-returns
 returns c =
     let on = c .before in
     let g = on .before .before .before .before .args in
-    let said = saying (g .kind) in
+    let said = saying (g .kind) (g .field) in
     subst
     (λ (x : ℕ). Admitted (c .admit .result) (g .image .now) (g .numbers .last) (wanted x receiving said (g .frame .now)) said true (g .frame .now))
     (on .spi-on .ensures ∙ ap (λ (n : Named). spiIn (kindBehind n) (g .frame .now)) (on .before .kind-of .ensures)) (c .admit .ensures)

@@ -7,7 +7,7 @@ use Prim.Native.Nat.{ℕ, _+_}
 use native.Mathlib.Omega.{arith}
 use borrow.Author.Tests.{lt-ltb, le-ltb, ltb-false, not-false}
 use lib.ListN.{length, drop}
-use Rattle.kinds.specs.Kinds.{Kind, kindIs}
+use Rattle.kinds.specs.Kinds.{Kind, framed}
 use Rattle.frame.specs.Parts as parts
 use Rattle.marks.specs.Stores.{storesOf}
 use Rattle.marks.specs.declared.plans.Plan.{Plan}
@@ -31,7 +31,7 @@ use Rattle.judging.proofs.receiving.judge_receiving.Tie as tie
 -- ---- the places that are looked back to: from each test to the one before it
 
 abbrev start : tie.After-too-short → tie.Start
-start c = c .before .before .before .before .before
+start c = c .before .before .before .before .before .before
 
 abbrev at-length : tie.After-clear-length → tie.After-too-short
 at-length c = c .before .before
@@ -48,7 +48,7 @@ abbrev held : tie.After-too-short → Held
 held c = start c .args .opening .held
 
 abbrev kind : tie.After-too-short → Kind
-kind c = kindIs (start c .args .opening .kind)
+kind c = framed (start c .args .opening .framing)
 
 abbrev frame : tie.After-too-short → List ℕ
 frame c = start c .args .frame .now

@@ -6,7 +6,7 @@ use Prim.Native.Nat.{ℕ}
 use native.Mathlib.Omega.{arith}
 use borrow.Author.Tests.{lt-ltb, le-ltb, le-leb, lt-leb}
 use lib.ListN.{drop}
-use Rattle.kinds.specs.Kinds.{Kind, kindIs}
+use Rattle.kinds.specs.Kinds.{Kind, framed}
 use Rattle.frame.specs.Parts as parts
 use Rattle.marks.specs.Stores.{storesOf}
 use Rattle.marks.specs.declared.plans.Plan.{Plan}
@@ -31,7 +31,7 @@ abbrev held : tie.After-exceeds → Held
 held c = start c .args .held
 
 abbrev kind : tie.After-exceeds → Kind
-kind c = kindIs (start c .args .kind)
+kind c = framed (start c .args .framing)
 
 abbrev frame : tie.After-exceeds → List ℕ
 frame c = start c .args .frame .now

@@ -5,7 +5,7 @@ use mathlib.Core.Path.{_≡_, ap, _∙_, subst}
 use mathlib.Core.Bool.{true}
 use lib.ListN.{length}
 use Rattle.octets.specs.Output.{written}
-use Rattle.kinds.specs.Kinds.{kindIs}
+use Rattle.kinds.specs.Kinds.{framed}
 use Rattle.frame.specs.Rules.{obeys}
 use Rattle.association.specs.Association.{associationOf, heldIn}
 use Rattle.association.specs.declared.held.Held.{Held}
@@ -38,21 +38,21 @@ under c = let g = start c .args in c .before .before .held-at .ensures ∙ held-
 
 opened : (c : tie.After-of) → let g = start c .args in
     c .before .opening-of .result
-    ≡ openingOf (g .kind) (heldIn (associationOf (g .image .now) (g .numbers .last) (g .entry))) (g .frame .now)
+    ≡ openingOf (g .framing) (heldIn (associationOf (g .image .now) (g .numbers .last) (g .entry))) (g .frame .now)
 opened c =
     let g = start c .args in
-    c .before .opening-of .ensures ∙ ap (λ (h : Held). openingOf (g .kind) h (g .frame .now)) (under c)
+    c .before .opening-of .ensures ∙ ap (λ (h : Held). openingOf (g .framing) h (g .frame .now)) (under c)
 
 as-opened : (c : tie.After-of) → let o = c .before .opening-of .result in let f = start c .args .frame .now in
-    (obeys (kindIs (o .kind)) f true ≡ true) × (o ≡ openingOf (o .kind) (o .held) f)
-as-opened c = let s = start c in opened-so (s .args .kind) _ (s .args .frame .now) (c .before .opening-of .result) (opened c) (s .pre)
+    (obeys (framed (o .framing)) f true ≡ true) × (o ≡ openingOf (o .framing) (o .held) f)
+as-opened c = let s = start c in opened-so (s .args .framing) _ (s .args .frame .now) (c .before .opening-of .result) (opened c) (s .pre)
 
 -- ---- the verdict
 
 abbrev reply : tie.After-judge-receiving → Reply
 reply c =
     let g = start (at-judge c) .args in
-    receivingReply (g .image .now) (g .numbers .last) (g .entry) (kindIs (g .kind)) (g .frame .now) (length (g .output .now))
+    receivingReply (g .image .now) (g .numbers .last) (g .entry) (framed (g .framing)) (g .frame .now) (length (g .output .now))
 
 abbrev told : tie.After-judge-receiving → Verdict → Type 0
 told c v = Judged v (judgement (reply c))
@@ -62,7 +62,7 @@ judged c =
     let d = at-judge c in
     let g = start d .args in
     subst (λ (j : Judgement). Judged (c .judge-receiving .result) j)
-    (receiving-judged (g .image .now) (g .numbers .last) (g .entry) _ _ (d .before .before .held-at .ensures) (d .of .ensures) (g .kind)
+    (receiving-judged (g .image .now) (g .numbers .last) (g .entry) _ _ (d .before .before .held-at .ensures) (d .of .ensures) (g .framing)
     (g .frame .now) (length (g .output .now)) _ (d .before .opening-of .ensures))
     (c .judge-receiving .ensures)
 
@@ -84,7 +84,7 @@ release-requires c κs =
     let e = at-judge d in
     let o = e .before .opening-of .result in
     let g = start e .args in
-    let k = kindIs (o .kind) in
+    let k = framed (o .framing) in
     let last = e .of .result in
     let room = length (g .output .now) in
     let j = subst (λ (v : Verdict). Judged v (receivingJudged (g .image .now) (g .entry) (o .held) last k (g .frame .now) room))
@@ -104,9 +104,9 @@ returns-2 c =
     let h = heldIn (associationOf (g .image .now) (g .numbers .last) (g .entry)) in
     let j = subst (told d) (hit .verdict2 .given .1) (judged d) in
     carried-grant (reply d) (g .image .now) (g .output .now) _ (g .numbers .last) (wrote .release .result) _ _ j
-    (length-clear-data h (kindIs (g .kind)) (g .frame .now)) (made .make-all .ensures .1)
+    (length-clear-data h (framed (g .framing)) (g .frame .now)) (made .make-all .ensures .1)
     (wrote .release .ensures .1
-    ∙ ap (λ (o : Opening). written (clearData (o .held) (kindIs (o .kind)) (g .frame .now)) (g .output .now)) (opened e))
+    ∙ ap (λ (o : Opening). written (clearData (o .held) (framed (o .framing)) (g .frame .now)) (g .output .now)) (opened e))
     (wrote .release .ensures .0 .0) (wrote .release .ensures .0 .1)
 
 pub check-under-spec : {M : Type 1} → statement M

@@ -5,7 +5,7 @@ use mathlib.Core.Path.{_≡_, ap₂, _∙_, subst}
 use Prim.Native.Nat.{ℕ, _+_}
 use lib.ListN.{length}
 use Rattle.octets.specs.Output.{written}
-use Rattle.kinds.specs.Kinds.{kindIs}
+use Rattle.kinds.specs.Kinds.{framed}
 use Rattle.association.specs.Association.{associationOf, heldIn}
 use Rattle.association.specs.declared.held.Held.{Held}
 use Rattle.protection.specs.Protection.{securedFrame}
@@ -26,7 +26,7 @@ start c = c .before .before .before .before .before .before .before .before
 abbrev reply : tie.After-judge-sending → Reply
 reply c =
     let g = start c .args in
-    sendingReply (g .image .now) (g .numbers .last) (g .entry) (kindIs (g .kind)) (g .spi) (g .frame .now) (length (g .output .now))
+    sendingReply (g .image .now) (g .numbers .last) (g .entry) (framed (g .framing)) (g .spi) (g .frame .now) (length (g .output .now))
 
 abbrev told : tie.After-judge-sending → Verdict → Type 0
 told c v = Judged v (judgement (reply c))
@@ -36,7 +36,7 @@ judged c =
     let g = start c .args in
     subst (λ (j : Judgement). Judged (c .judge-sending .result) j)
     (sending-judged (g .image .now) (g .numbers .last) (g .entry) _ _ (c .before .before .before .held-at .ensures) (c .before .before .of .ensures)
-    (kindIs (g .kind)) (g .spi) (g .frame .now) (length (g .output .now)))
+    (framed (g .framing)) (g .spi) (g .frame .now) (length (g .output .now)))
     (c .judge-sending .ensures)
 
 under : (c : tie.After-judge-sending) → let g = start c .args in
@@ -62,7 +62,7 @@ hand-out-requires c κs =
     let a = associationOf (g .image .now) (g .numbers .last) (g .entry) in
     let j = subst (told d) (hit .verdict2 .given .1) (judged d) in (
       made .make-all .ensures .0,
-      rw (under d) (securable (heldIn a) (a .number) (g .kind) (g .frame .now) (length (g .output .now)) (start d .pre) (j .answer)),
+      rw (under d) (securable (heldIn a) (a .number) (g .framing) (g .frame .now) (length (g .output .now)) (start d .pre) (j .answer)),
     )
 
 returns-2 : tie.Need-returns-2
@@ -75,10 +75,10 @@ returns-2 c =
     let a = associationOf (g .image .now) (g .numbers .last) (g .entry) in
     let j = subst (told d) (hit .verdict2 .given .1) (judged d) in
     carried-grant (reply d) (g .image .now) (g .output .now) _ (g .numbers .last) (wrote .hand-out .result) _ _ j
-    (frame-size (heldIn a) (a .number) (g .kind) (g .frame .now) (length (g .output .now)) (start d .pre) (j .answer) (g .spi) (a .number + 1))
+    (frame-size (heldIn a) (a .number) (g .framing) (g .frame .now) (length (g .output .now)) (start d .pre) (j .answer) (g .spi) (a .number + 1))
     (made .make-all .ensures .1)
     (wrote .hand-out .ensures .1
-    ∙ ap₂ (λ (h : Held) (n : ℕ). written (securedFrame h (kindIs (g .kind)) (g .spi) n (g .frame .now)) (g .output .now)) (under d) (j .number))
+    ∙ ap₂ (λ (h : Held) (n : ℕ). written (securedFrame h (framed (g .framing)) (g .spi) n (g .frame .now)) (g .output .now)) (under d) (j .number))
     (wrote .hand-out .ensures .0 .0) (wrote .hand-out .ensures .0 .1)
 
 pub secure-under-spec : {M : Type 1} → statement M

@@ -7,7 +7,7 @@ use native.Mathlib.Omega.{arith}
 use lib.ListN.{length, take, length-take, length-drop}
 use lib.Seq.{length-take-le}
 use Rattle.octets.specs.Same.{same}
-use Rattle.kinds.specs.Kinds.{kindIs}
+use Rattle.kinds.specs.Kinds.{framed}
 use Rattle.frame.specs.Parts.{securityOf}
 use Rattle.services.specs.SecurityHeader.{securityLength}
 use Rattle.protection.specs.Protection.{fieldIn, coveredIn, textIn, macRight}
@@ -19,7 +19,7 @@ use Rattle.protection.proofs.checked.mac_right.Statement.{statement}
 use Rattle.protection.proofs.checked.mac_right.Tie as tie
 
 abbrev start : tie.After-mask → tie.Start
-start c = c .before .before .before .before
+start c = c .before .before .before .before .before
 
 abbrev opened : tie.After-cover → tie.After-mask
 opened c = c .before .before
@@ -36,7 +36,7 @@ before c = c .cover .last .1 .1 .1 .1 .0
 cover-requires : tie.Need-cover-requires
 cover-requires c κs =
     let g = start (c .before) .args in
-    let t = at-most-twenty (g .opening .held) (g .opening .kind) (g .frame .now) in
+    let t = at-most-twenty (g .opening .held) (g .opening .framing) (g .frame .now) in
     let p = places (c .before) in
     (omega arith, omega arith)
 
@@ -44,7 +44,7 @@ long : (c : tie.After-cover) → let o = start (opened c) .args .opening in o .p
 long c = let p = within c in omega arith
 
 counted : (c : tie.After-cover) → let g = start (opened c) .args in
-    c .cover .result ≡ kindIs (g .opening .kind) .header (g .frame .now) + securityLength (g .opening .held)
+    c .cover .result ≡ framed (g .opening .framing) .header (g .frame .now) + securityLength (g .opening .held)
 counted c = omega (arith, c .cover .ensures .0, long c)
 
 filled : (c : tie.After-cover) → length (before c) ≡ 20
@@ -52,16 +52,16 @@ filled c =
     let g = start (opened c) .args in
     let o = g .opening in
     let p = within c in
-    twenty (o .held) (o .kind) (g .frame .now) (o .parts .security - o .parts .header) (long c) (omega arith) (before c) (c .cover .ensures .1)
+    twenty (o .held) (o .framing) (g .frame .now) (o .parts .security - o .parts .header) (long c) (omega arith) (before c) (c .cover .ensures .1)
 
 covered : (c : tie.After-cover) → let g = start (opened c) .args in
-    take (c .cover .result) (before c) ≡ coveredIn (g .opening .held) (kindIs (g .opening .kind)) (g .frame .now)
+    take (c .cover .result) (before c) ≡ coveredIn (g .opening .held) (framed (g .opening .framing)) (g .frame .now)
 covered c =
     let g = start (opened c) .args in
     let o = g .opening in
     let p = within c in
     ap (λ (x : ℕ). take x (before c)) (c .cover .ensures .0)
-    ∙ front (o .held) (o .kind) (g .frame .now) (o .parts .security - o .parts .header) (long c) (omega arith) (before c)
+    ∙ front (o .held) (o .framing) (g .frame .now) (o .parts .security - o .parts .header) (long c) (omega arith) (before c)
     (c .cover .ensures .1)
 
 -- ---- the parts that are lent
@@ -70,14 +70,14 @@ array-share-prefix-before : tie.Need-array-share-prefix-before
 array-share-prefix-before c =
     let d = c .before .before .before .before in
     let g = start (opened d) .args in
-    let t = at-most-twenty (g .opening .held) (g .opening .kind) (g .frame .now) in
+    let t = at-most-twenty (g .opening .held) (g .opening .framing) (g .frame .now) in
     omega (arith, counted d, filled d)
 
 slice-aggregate-mac-is-right : tie.Need-slice-aggregate-mac-is-right
 slice-aggregate-mac-is-right c =
     let d = c .before .before .before .before .before in
     let g = start (opened d) .args in
-    let t = at-most-twenty (g .opening .held) (g .opening .kind) (g .frame .now) in
+    let t = at-most-twenty (g .opening .held) (g .opening .framing) (g .frame .now) in
     sym (length-take-le _ _ (omega (arith, counted d, filled d)))
 
 mac-is-right-requires : tie.Need-mac-is-right-requires
@@ -86,7 +86,7 @@ mac-is-right-requires c κs =
     let s = start (opened d) in
     let g = s .args in
     let p = within d in
-    let t = at-most-twenty (g .opening .held) (g .opening .kind) (g .frame .now) in (
+    let t = at-most-twenty (g .opening .held) (g .opening .framing) (g .frame .now) in (
       key-expanded (g .opening) (g .frame .now) (s .pre),
       rw (length-take, length-drop) (omega arith),
       rw length-take (omega (arith, counted d)),
@@ -100,7 +100,7 @@ returns c =
     let s = start (opened d) in
     let o = s .args .opening in
     let f = s .args .frame .now in
-    let k = kindIs (o .kind) in
+    let k = framed (o .framing) in
     let mac = c .before .before .before .before .before .block-at in
     let security = securityOf k (securityLength (o .held)) f in
     c .mac-is-right .ensures

@@ -3,7 +3,7 @@
 use mathlib.Core.Path.{ap, ap₂, _∙_}
 use mathlib.Core.List.{List}
 use Prim.Native.Nat.{ℕ}
-use Rattle.kinds.specs.Kinds.{kindIs}
+use Rattle.kinds.specs.Kinds.{framed}
 use Rattle.frame.specs.Parts.{securedParts}
 use Rattle.frame.specs.declared.parts.SecuredParts.{SecuredParts}
 use Rattle.protection.specs.declared.checked.Opening.{Opening}
@@ -16,9 +16,9 @@ returns c =
     let expanding = c .before .before in
     let g = expanding .before .before .before .args in
     let long = c .before .security-length .ensures .0 in
-    let of : List ℕ → SecuredParts → Opening = λ w p. record { kind = g .kind; held = g .held; expanded = w; parts = p } in
+    let of : List ℕ → SecuredParts → Opening = λ w p. record { framing = g .framing; held = g .held; expanded = w; parts = p } in
     ap₂ of (expanding .expand-key .ensures)
-    (c .secured-parts .ensures ∙ ap (λ (s : ℕ). securedParts (kindIs (g .kind)) s (g .frame .now)) long)
+    (c .secured-parts .ensures ∙ ap (λ (s : ℕ). securedParts (framed (g .framing)) s (g .frame .now)) long)
 
 pub opening-of-spec : {M : Type 1} → statement M
 opening-of-spec =

@@ -3,7 +3,7 @@
 use mathlib.Core.Path.{_∙_, ap}
 use Prim.Native.Nat.{ℕ, _+_}
 use native.Mathlib.Omega.{arith}
-use Rattle.kinds.specs.Kinds.{kindIs}
+use Rattle.kinds.specs.Kinds.{framed}
 use Rattle.protection.proofs.Covering.{covered}
 use borrow.Author.Needs.{needs}
 use Rattle.protection.proofs.cover.cover.Statement.{statement}
@@ -17,7 +17,7 @@ returns c =
     let h = measured .header-length in (
       ap (λ (x : ℕ). x + g .security) (h .ensures),
       c .before .before .put-behind .ensures
-          ∙ covered (kindIs (g .kind)) (g .t2) (g .frame .now) (g .out .now) (h .result) (g .security) (h .ensures)
+          ∙ covered (framed (g .framing)) (g .t2) (g .frame .now) (g .out .now) (h .result) (g .security) (h .ensures)
           (omega (arith, h .ensures)) (omega (arith, h .ensures)) (first .mask-header .last .1 .1 .1 .0) (first .mask-header .ensures .1),
     )
 

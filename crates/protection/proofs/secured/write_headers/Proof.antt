@@ -6,9 +6,9 @@ use Prim.Native.Nat.{_≤_}
 use native.Mathlib.Omega.{arith}
 use lib.ListN.{length, take, drop, length-take}
 use lib.Seq.{length-take-le}
-use Rattle.kinds.specs.Kinds.{kindIs}
+use Rattle.kinds.specs.Kinds.{framed}
 use Rattle.frame.specs.Parts.{headerOf}
-use Rattle.kinds.proofs.Kept.{lawful-kind}
+use Rattle.kinds.proofs.Kept.{lawful-framed}
 use Rattle.protection.proofs.Headers.{length-rewritten, rewritten-front}
 use Rattle.octets.specs.Output.{written}
 use Rattle.octets.proofs.Filling.{length-written, with-room, behind}
@@ -54,8 +54,8 @@ returns c =
     let measured = first .before .before .before in
     let g = start measured .args in
     let h = measured .header-length in
-    let k = kindIs (g .kind) in
-    let law = lawful-kind (g .kind) in
+    let k = framed (g .framing) in
+    let law = lawful-framed (g .framing) in
     let whole = rewritten .last .1 .0 ++ drop (h .result) (first .put .last .1 .0) in
     c .before .before .put-behind .ensures
     ∙ behind (h .result) (k .withLength (g .size) (headerOf k (g .frame .now))) (g .security .now) (g .output .now) whole

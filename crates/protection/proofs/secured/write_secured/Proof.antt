@@ -1,18 +1,20 @@
--- `write_secured` is right because each piece goes behind those before it: the headers, the data as it goes out, the MAC and the trailer.
+-- `write_secured` is right because each piece goes behind those before it: the headers, the data as it goes out, the MAC, the control field,
+-- and last the check field.
 -- Assumes nothing.
 use mathlib.Core.Path.{_≡_, sym, ap, ap₂, _∙_}
 use mathlib.Core.List.{List}
 use Prim.Native.Nat.{ℕ, _+_, _-_, _≤_}
 use native.Mathlib.Omega.{arith}
 use lib.ListN.{length, take, drop, length-take, length-drop}
-use lib.Seq.{slice, take-all, drop-at, take-at, length-take-le}
+use lib.Seq.{slice, drop-at, take-at, length-take-le}
 use Rattle.octets.specs.Numbers.{bytes}
 use Rattle.octets.proofs.Numbers.{length-bytes}
-use Rattle.kinds.specs.Kinds.{kindIs}
+use Rattle.kinds.specs.Kinds.{framed}
 use Rattle.frame.specs.Parts as parts
-use Rattle.frame.specs.Parts.{trailerOf, clearContent, trailerStart}
+use Rattle.frame.specs.Closing.{controlOf}
+use Rattle.frame.specs.Parts.{clearContent, trailerStart, controlEnd}
 use Rattle.frame.specs.declared.parts.ClearParts.{ClearParts}
-use Rattle.kinds.proofs.Kept.{lawful-kind}
+use Rattle.kinds.proofs.Kept.{lawful-framed}
 use Rattle.octets.specs.Output.{written}
 use Rattle.services.specs.SecurityHeader.{serviceIn, securityLength, fieldFor}
 use Rattle.protection.specs.Protection.{securedLength}
@@ -51,11 +53,12 @@ mac-in c = c .put-behind .last .1 .1 .0
 -- ---- the places of the parts, and the room there is
 
 record Measured (c : tie.After-clear-parts) : Type 0 where
-  header : c .clear-parts .result .header ≡ kindIs (entry c .args .kind) .header (entry c .args .frame .now)
-  content : c .clear-parts .result .content ≡ trailerStart (kindIs (entry c .args .kind)) (entry c .args .frame .now)
+  header : c .clear-parts .result .header ≡ framed (entry c .args .framing) .header (entry c .args .frame .now)
+  content : c .clear-parts .result .content ≡ trailerStart (framed (entry c .args .framing)) (entry c .args .frame .now)
+  control : c .clear-parts .result .control ≡ controlEnd (framed (entry c .args .framing)) (entry c .args .frame .now)
   security : c .before .before .security-length .result ≡ securityLength (entry c .args .held)
   short : c .before .before .security-length .result ≤ 14
-  parted : let k = kindIs (entry c .args .kind) in let f = entry c .args .frame .now in k .header f + k .trailer f ≤ length f
+  parted : let k = framed (entry c .args .framing) in let f = entry c .args .frame .now in k .header f + k .trailer f ≤ length f
   small : length (entry c .args .frame .now) ≤ 2048
   roomy : securedLength (entry c .args .held) (entry c .args .frame .now) ≤ length (entry c .args .output .now)
 
@@ -64,6 +67,7 @@ measured c =
     record {
       header = ap (λ (x : ClearParts). x .header) (c .clear-parts .ensures);
       content = ap (λ (x : ClearParts). x .content) (c .clear-parts .ensures);
+      control = ap (λ (x : ClearParts). x .control) (c .clear-parts .ensures);
       security = c .before .before .security-length .ensures .0;
       short = search needs;
       parted = search needs;
@@ -76,8 +80,8 @@ securing c =
     let g = entry c .args in
     record {
       held = g .held;
-      kind = kindIs (g .kind);
-      law = lawful-kind (g .kind);
+      kind = framed (g .framing);
+      law = lawful-framed (g .framing);
       spi = g .spi;
       number = g .n;
       frame = g .frame .now;
@@ -86,7 +90,7 @@ securing c =
       roomy = measured c .roomy;
     }
 
--- ---- the security header, its field, the clear data and the trailer, as they are lent
+-- ---- the security header, its field, the clear data and the control field, as they are lent
 
 abbrev security-lent : tie.After-clear-parts → List ℕ
 security-lent c = take (c .before .before .security-length .result) (c .before .security-header .result)
@@ -106,26 +110,22 @@ field-is c =
 abbrev clear-lent : tie.After-clear-parts → List ℕ
 clear-lent c = let p = c .clear-parts .result in take (p .content - p .header) (drop (p .header) (entry c .args .frame .now))
 
-clear-is : (c : tie.After-clear-parts) → clear-lent c ≡ clearContent (kindIs (entry c .args .kind)) (entry c .args .frame .now)
+clear-is : (c : tie.After-clear-parts) → clear-lent c ≡ clearContent (framed (entry c .args .framing)) (entry c .args .frame .now)
 unfolding clearContent
 clear-is c =
     let p = c .clear-parts in
     slice-as-part (p .result .header) (p .result .content) (entry c .args .frame .now)
     ∙ ap (λ (x : ClearParts). slice (x .header) (x .content) (entry c .args .frame .now)) (p .ensures)
 
-abbrev trailer-lent : tie.After-clear-parts → List ℕ
-trailer-lent c =
-    let f = entry c .args .frame .now in
-    let content = c .clear-parts .result .content in
-    take (length f - content) (drop content f)
+abbrev control-lent : tie.After-clear-parts → List ℕ
+control-lent c = let p = c .clear-parts .result in take (p .control - p .content) (drop (p .content) (entry c .args .frame .now))
 
-trailer-is : (c : tie.After-clear-parts) → trailer-lent c ≡ trailerOf (kindIs (entry c .args .kind)) (entry c .args .frame .now)
-unfolding trailerOf
-trailer-is c =
-    let f = entry c .args .frame .now in
-    let content = c .clear-parts .result .content in
-    take-all (length f - content) (drop content f) (simp length-drop (omega arith))
-    ∙ ap (λ (x : ClearParts). drop (x .content) f) (c .clear-parts .ensures)
+control-is : (c : tie.After-clear-parts) → control-lent c ≡ controlOf (framed (entry c .args .framing)) (entry c .args .frame .now)
+unfolding controlOf
+control-is c =
+    let p = c .clear-parts in
+    slice-as-part (p .result .content) (p .result .control) (entry c .args .frame .now)
+    ∙ ap (λ (x : ClearParts). slice (x .content) (x .control) (entry c .args .frame .now)) (p .ensures)
 
 -- ---- the headers
 
@@ -199,7 +199,7 @@ maced c =
     assembling.with-mac (securing p) (text-in t) (texted t) (t .write-text .result) (mac-in c) (signed t) a
     (ap₂ _+_ (measured p .content) (measured p .security)) (c .put-behind .ensures)
 
--- ---- the trailer
+-- ---- the control field
 
 sub-put-behind : tie.Need-sub-put-behind
 sub-put-behind c = omega (arith, measured (parts-at (headers-at (text-at (c .before .before)))))
@@ -207,20 +207,56 @@ sub-put-behind c = omega (arith, measured (parts-at (headers-at (text-at (c .bef
 part-put-behind-start : tie.Need-part-put-behind-start
 part-put-behind-start c = omega (arith, measured (parts-at (headers-at (text-at (c .before .before)))))
 
+part-put-behind-end : tie.Need-part-put-behind-end
+part-put-behind-end c = omega (arith, measured (parts-at (headers-at (text-at (c .before .before)))))
+
 add-put-behind-2 : tie.Need-add-put-behind-2
 add-put-behind-2 c = record { fits = omega (arith, measured (parts-at (headers-at (text-at (c .before .before .before))))) }
 
 add-put-behind-3 : tie.Need-add-put-behind-3
 add-put-behind-3 c = record { fits = omega (arith, measured (parts-at (headers-at (text-at (c .before .before .before))))) }
 
-returns : tie.Need-returns
-returns c =
-    let b = c .before .before .before .before .before .before .before in
+abbrev mac-at : tie.After-put-behind2 → tie.After-put-behind
+mac-at c = c .before .before .before .before .before
+
+abbrev control-in : tie.After-put-behind2 → List ℕ
+control-in c = c .put-behind2 .last .1 .1 .0
+
+copied : (c : tie.After-put-behind2) → let s = securing (parts-at (headers-at (text-at (mac-at c)))) in
+    control-in c ≡ written (assembling.to-control s) (s .out)
+copied c =
+    let b = mac-at c in
     let p = parts-at (headers-at (text-at b)) in
     let a = p .clear-parts .result .content + p .before .before .security-length .result + 16 in
-    let last = c .before .before .put-behind2 in
-    assembling.with-trailer (securing p) (mac-in b) (maced b) (trailer-lent p) (last .last .1 .1 .0) (trailer-is p) a
-    (ap₂ (λ (x y : ℕ). x + y + 16) (measured p .content) (measured p .security)) (last .ensures)
+    assembling.with-control (securing p) (mac-in b) (maced b) (control-lent p) (control-in c) (control-is p) a
+    (ap₂ (λ (x y : ℕ). x + y + 16) (measured p .content) (measured p .security)) (c .put-behind2 .ensures)
+
+-- ---- the check field
+
+add-close : tie.Need-add-close
+add-close c = record { fits = omega (arith, measured (parts-at (headers-at (text-at (mac-at (c .before .before)))))) }
+
+add-close-2 : tie.Need-add-close-2
+add-close-2 c = record { fits = omega (arith, measured (parts-at (headers-at (text-at (mac-at (c .before .before)))))) }
+
+close-requires : tie.Need-close-requires
+close-requires c κs =
+    let b = c .before .before .before in
+    let p = parts-at (headers-at (text-at (mac-at b))) in
+    let s = securing p in
+    let m = measured p in
+    let l = assembling.long-control s (control-in b) (copied b) in
+    let f = s .law .counted (s .frame) in
+    omega (arith, m, l, f)
+
+returns : tie.Need-returns
+returns c =
+    let closing = c .before .before in
+    let b = closing .before .before .before .before in
+    let p = parts-at (headers-at (text-at (mac-at b))) in
+    let a = p .clear-parts .result .control + p .before .before .security-length .result + 16 in
+    assembling.with-field (securing p) (control-in b) (copied b) a
+    (ap₂ (λ (x y : ℕ). x + y + 16) (measured p .control) (measured p .security)) (closing .close .last .1 .1 .0) (closing .close .ensures)
 
 pub write-secured-spec : {M : Type 1} → statement M
 write-secured-spec =
@@ -228,5 +264,5 @@ write-secured-spec =
     (tie.spec (λ c κs. search needs) (λ c κs. search needs) (λ c κs. search needs) (λ c. search needs) (λ c κs.
     search needs) (λ c. search needs) slice-aggregate-write-headers write-headers-requires (λ c. search needs)
     slice-aggregate-write-text sub-write-text part-write-text-start part-write-text-end write-text-requires (λ c. search
-    needs) add-put-behind (λ c κs. search needs) sub-put-behind part-put-behind-start (λ c. search needs)
-    add-put-behind-2 add-put-behind-3 (λ c κs. search needs) (λ c. search needs) returns)
+    needs) add-put-behind (λ c κs. search needs) sub-put-behind part-put-behind-start part-put-behind-end
+    add-put-behind-2 add-put-behind-3 (λ c κs. search needs) add-close add-close-2 close-requires (λ c. search needs) returns)

@@ -1,4 +1,4 @@
--- `kind_obeyed` is right because it joins the four tests that the definition joins, and header and trailer are short, so no sum wraps.
+-- `framing_obeyed` is right because it joins the four tests that the definition joins, and header and trailer are short, so no sum wraps.
 -- Assumes nothing.
 use Prim.Native.Nat.{_<_}
 use mathlib.Core.Bool.{Bool, true, false}
@@ -6,8 +6,8 @@ use native.Mathlib.Omega.{arith}
 use Rattle.kinds.proofs.Sizes.{header-short, trailer-short}
 use Rattle.frame.specs.Rules.{least, obeys}
 use borrow.Author.Needs.{needs}
-use Rattle.frame.proofs.rules.kind_obeyed.Statement.{statement}
-use Rattle.frame.proofs.rules.kind_obeyed.Tie as tie
+use Rattle.frame.proofs.rules.framing_obeyed.Statement.{statement}
+use Rattle.frame.proofs.rules.framing_obeyed.Tie as tie
 
 least-short : (secured : Bool) → least secured < 256
 least-short true = omega arith
@@ -16,13 +16,13 @@ least-short false = omega arith
 add-least : tie.Need-add-least
 add-least c =
     let given = c .before .before .before .args in
-    record { fits = omega (arith, header-short (given .kind) (given .frame .now), least-short (given .secured)) }
+    record { fits = omega (arith, header-short (given .framing .kind) (given .frame .now), least-short (given .secured)) }
 
 add-least-2 : tie.Need-add-least-2
 add-least-2 c =
     let given = c .before .before .before .before .args in
-    let header = header-short (given .kind) (given .frame .now) in
-    let trailer = trailer-short (given .kind) (given .frame .now) in
+    let header = header-short (given .framing .kind) (given .frame .now) in
+    let trailer = trailer-short (given .framing) (given .frame .now) in
     record { fits = omega (arith, header, least-short (given .secured), trailer) }
 
 returns : tie.Need-returns
@@ -37,8 +37,8 @@ returns c =
       c .before .before .before .before .before .header-length .ensures,
     )
 
-pub kind-obeyed-spec : {M : Type 1} → statement M
-kind-obeyed-spec =
+pub framing-obeyed-spec : {M : Type 1} → statement M
+framing-obeyed-spec =
     tie.close
     (tie.spec (λ c κs. search needs) (λ c κs. search needs) add-least (λ c κs. search needs) add-least-2
     (λ c κs. search needs) (λ c κs. search needs) (λ c κs. search needs) returns)

@@ -1,0 +1,9 @@
+pub mod Changes
+pub mod Division
+pub mod Examples
+pub mod Fields
+pub mod Laws
+pub mod Shifting
+pub mod Sums
+pub mod Syndrome
+pub mod Testing

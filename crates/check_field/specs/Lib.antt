@@ -1,0 +1,3 @@
+pub mod CheckField
+pub mod Polynomials
+pub mod Register
