@@ -71,7 +71,8 @@ extern "C" {
 /* The frame kinds. Any other number is answered by 3. */
 #define XISTALVO_TC 1         /* telecommand, header of 5 octets, at most 1,024 octets */
 #define XISTALVO_TC_SEGMENT 2 /* telecommand with segment header, 6 octets, at most 1,024 */
-#define XISTALVO_TM 3         /* telemetry, header of 6 octets, at most 2,048, perhaps with an operational control field (OCF) */
+#define XISTALVO_TM 3         /* telemetry, header of 6 octets, at most 2,048, perhaps with a secondary header of 2 to 64 octets behind it, and
+                               * with an operational control field (OCF) */
 #define XISTALVO_AOS 4        /* AOS, header of 6 octets with version 01, at most 2,048; no length field, insert zone or OCF */
 
 /* Whether frames end in a check field, the frame error control field of CCSDS 232.0 and 132.0, behind the OCF: clear and secured frames alike.
@@ -96,7 +97,8 @@ enum xistalvo_answer {
     XISTALVO_DONE = 0,                /* Done. */
     XISTALVO_BAD_IMAGE = 1,           /* The image breaks a rule of its layout. */
     XISTALVO_NUMBERS_DISAGREE = 2,    /* For some entry, number/64 rounded down is not the entry's mark; or there are not 32 numbers. */
-    XISTALVO_BAD_FRAME = 3,           /* No such kind, or the frame breaks its kind's header rules, length field or size. */
+    XISTALVO_BAD_FRAME = 3,           /* No such kind, or the frame breaks its kind's header rules, length field or size; for TM also where its
+                                       * secondary header is bad or leaves no room. */
     XISTALVO_NO_ASSOCIATION = 4,      /* No operational entry has the SPI and matches direction, kind, spacecraft, channel and MAP. */
     XISTALVO_SECURED_TOO_SHORT = 5,   /* The secured frame has no room for security header, one octet of data and MAC. */
     XISTALVO_OUTPUT_TOO_SHORT = 6,    /* The output is shorter than the result. */
@@ -127,10 +129,10 @@ uint64_t xistalvo_load(const uint8_t *image, size_t image_length, uint32_t *numb
  * Answers, in this order: 1, 2, 3 (a clear frame has at least one octet of data), 12, 4 (with direction 'send'), 11, 6, 10, 0.
  * Done: the number n is numbers[i] + 1, where i is the entry. First the mark of entry i is raised, one at a time, to n/64 rounded down, one
  * octet of the image stored for each raise; the stores are counted, here 0 or 1. The secured frame fills the start of the output: the
- * header, for TC with its length field rewritten; the SPI and n, in 4 octets (service 1) or 12 (service 2); the data, encrypted by
- * service 2; the MAC, 16 octets; the OCF if the frame has one; and where the clear frame ends in a check field, a new one over all of that.
- * The length is that of the secured frame: 22 more than the clear frame's (service 1) or 30 more (service 2). numbers[i] becomes n. The rest
- * of the output, the rest of the image and the other numbers stay.
+ * header, for TC with its length field rewritten, for TM with its secondary header if it has one; the SPI and n, in 4 octets (service 1) or
+ * 12 (service 2); the data, encrypted by service 2; the MAC, 16 octets; the OCF if the frame has one; and where the clear frame ends in a
+ * check field, a new one over all of that, headers included. The length is that of the secured frame: 22 more than the clear frame's
+ * (service 1) or 30 more (service 2). numbers[i] becomes n. The rest of the output, the rest of the image and the other numbers stay.
  * Refused: image, numbers and output stay as they were. The frame is never written. */
 uint64_t xistalvo_secure(uint8_t *image, size_t image_length, uint32_t *numbers, size_t numbers_length, uint8_t kind, uint8_t check_field,
                          uint16_t spi, const uint8_t *frame, size_t frame_length, uint8_t *output, size_t output_length);
@@ -141,7 +143,7 @@ uint64_t xistalvo_secure(uint8_t *image, size_t image_length, uint32_t *numbers,
  * 8, 0. The frame's number n is accepted where numbers[i] < n, n is at most numbers[i] + window
  * and at most 4,294,967,295, over whole numbers, where i is the entry.
  * Done: first the mark of entry i is raised, one at a time, to n/64 rounded down, one octet of the image stored for each raise; the stores
- * are counted, at most 16. The clear data alone, without header, OCF and check field, fills the start of the output, and the length is that
+ * are counted, at most 16. The clear data alone, without headers, OCF and check field, fills the start of the output, and the length is that
  * of the data. numbers[i] becomes n. The rest of the output, the rest of the image and the other numbers stay.
  * Refused: image, numbers and output stay as they were, and nothing is decrypted. The frame is never written. */
 uint64_t xistalvo_check(uint8_t *image, size_t image_length, uint32_t *numbers, size_t numbers_length, uint8_t kind, uint8_t check_field,

@@ -1,5 +1,6 @@
 /* The cases A to O of document 01 through the C interface, with the paper's own figures, and its slips; and of document 02 the fields
- * and limits of AOS (request 1), sets of channels (2) and the check field (4). Each call is also compared with the independent reading (support/both.h). */
+ * and limits of AOS (request 1), sets of channels (2), the check field (4) and secondary headers (6). Each call is also compared with the
+ * independent reading (support/both.h). */
 #include "support/both.h"
 
 #include <stdio.h>
@@ -342,10 +343,26 @@ static void try_field_order(void)
     passed += 4;
 }
 
-/* 'A frame with a right field and then one bit changed is shown to be refused by 3 or 12': every bit, of clear and secured frames. */
+/* 'A frame with a right field and then one bit changed is shown to be refused by 3 or 12': every bit of a frame. */
+static void expect_every_bit(const struct input *input)
+{
+    static const char name[] = "field: a bit";
+    static struct input changed;
+    changed = *input;
+    expect(both_run(&test_random, &changed).answer == 0, name, "the frame is refused as it is");
+    for (size_t bit = 0; bit < 8 * input->frame_length; bit++) {
+        changed = *input;
+        changed.frame[bit / 8] ^= (uint8_t)(1u << bit % 8);
+        unsigned answer = both_run(&test_random, &changed).answer;
+        expect(answer == 3 || answer == 12, name, "it is not refused by 3 or 12");
+    }
+    passed++;
+}
+
+/* Of clear and secured frames of this kind. */
 static void try_every_bit(enum which_call which, unsigned kind, unsigned service)
 {
-    static struct input input, changed;
+    static struct input input;
     const struct a_case a_case = {"field: a bit", which, {service, kind, which == CALL_SECURE ? 1 : 2, 100, 0, true}, 63, 20, 64, 0,
                                   false, 0, 0, 0, 0, 0};
     start_input(&input, which, &a_case.setting);
@@ -355,15 +372,7 @@ static void try_every_bit(enum which_call which, unsigned kind, unsigned service
     } else {
         input.frame_length = clear_frame(kind, true, a_case.clear_length, input.frame);
     }
-    changed = input;
-    expect(both_run(&test_random, &changed).answer == 0, a_case.name, "the frame is refused as it is");
-    for (size_t bit = 0; bit < 8 * input.frame_length; bit++) {
-        changed = input;
-        changed.frame[bit / 8] ^= (uint8_t)(1u << bit % 8);
-        unsigned answer = both_run(&test_random, &changed).answer;
-        expect(answer == 3 || answer == 12, a_case.name, "it is not refused by 3 or 12");
-    }
-    passed++;
+    expect_every_bit(&input);
 }
 
 /* ---- sets of channels, version 2 ---- */
@@ -444,6 +453,143 @@ static void try_set_frame(const struct set_frame *set)
         expect(both_run(&test_random, &input).answer == (side == 0 ? set->secured : set->checked), set->name, "another answer");
     }
     passed++;
+}
+
+/* ---- secondary headers of TM ---- */
+
+/* A frame of kind 3: a primary header whose header flag is 1, a first octet of the secondary header (none where the frame ends before it), and
+ * octets of AA up to a length. */
+struct stamped_frame {
+    const char *name;
+    bool has_ocf, has_field; /* a check field is right */
+    uint8_t first;
+    size_t length;
+    unsigned secured, checked; /* the answers; as a secured frame it has the SPI 9 behind its header, if it reaches so far, and no right MAC */
+};
+
+static const struct stamped_frame stamped_frames[] = {
+    {"secondary header: the frame ends before it", false, false, 0x01, 6, 3, 3},
+    {"secondary header: its first octet alone", false, false, 0x01, 7, 3, 3},
+    {"secondary header: the shortest, and no data", false, false, 0x01, 8, 3, 3},
+    {"secondary header: the shortest, an octet of data", false, false, 0x01, 9, 0, 3},
+    {"secondary header: the shortest, an SPI", false, false, 0x01, 10, 0, 5},
+    {"secondary header: the shortest, no octet of secured data", false, false, 0x01, 30, 0, 5},
+    {"secondary header: the shortest, an octet of secured data", false, false, 0x01, 31, 0, 7},
+    {"secondary header: the shortest and the OCF, no data", true, false, 0x01, 12, 3, 3},
+    {"secondary header: the shortest and the OCF, an octet of data", true, false, 0x01, 13, 0, 3},
+    {"secondary header: the longest, cut", false, false, 0x3F, 69, 3, 3},
+    {"secondary header: the longest, and no data", false, false, 0x3F, 70, 3, 3},
+    {"secondary header: the longest, an octet of data", false, false, 0x3F, 71, 0, 3},
+    {"secondary header: the longest, no octet of secured data", false, false, 0x3F, 92, 0, 5},
+    {"secondary header: the longest, an octet of secured data", false, false, 0x3F, 93, 0, 7},
+    {"secondary header: the longest and the OCF, no octet of secured data", true, false, 0x3F, 96, 0, 5},
+    {"secondary header: the longest and the OCF, an octet of secured data", true, false, 0x3F, 97, 0, 7},
+    {"secondary header: the longest, 2,026 gives 2,048", false, false, 0x3F, 2026, 0, 7},
+    {"secondary header: the longest, 2,027 gives 11", false, false, 0x3F, 2027, 11, 7},
+    {"secondary header: length field 0", false, false, 0x00, 100, 3, 3},
+    {"secondary header: version 01", false, false, 0x41, 100, 3, 3},
+    {"secondary header: version 10", false, false, 0x81, 100, 3, 3},
+    {"secondary header: version 11", false, false, 0xFF, 100, 3, 3},
+    {"slip: the length field is the length", false, false, 0x3E, 70, 0, 3},
+    {"secondary header: the shortest and a check field, no data", false, true, 0x01, 10, 3, 3},
+    {"secondary header: the shortest and a check field, an octet of data", false, true, 0x01, 11, 0, 3},
+    {"secondary header: the shortest and a check field, an SPI", false, true, 0x01, 12, 0, 5},
+    {"secondary header: the shortest and a check field, no octet of secured data", false, true, 0x01, 32, 0, 5},
+    {"secondary header: the shortest and a check field, an octet of secured data", false, true, 0x01, 33, 0, 7},
+    {"secondary header: the longest, the OCF and a check field, no data", true, true, 0x3F, 76, 3, 3},
+    {"secondary header: the longest, the OCF and a check field, an octet of data", true, true, 0x3F, 77, 0, 3},
+    {"secondary header: the longest, the OCF and a check field, no octet of secured data", true, true, 0x3F, 98, 0, 5},
+    {"secondary header: the longest, the OCF and a check field, an octet of secured data", true, true, 0x3F, 99, 0, 7},
+    {"secondary header: the longest and a check field, 2,026 gives 2,048", false, true, 0x3F, 2026, 0, 7},
+    {"secondary header: the longest and a check field, 2,027 gives 11", false, true, 0x3F, 2027, 11, 7},
+    {"secondary header: length field 0, before a check field", false, true, 0x00, 100, 3, 3},
+};
+
+static void try_stamped_frame(const struct stamped_frame *stamped)
+{
+    static struct input input;
+    for (unsigned side = 0; side < 2; side++) {
+        const struct setting setting = {1, 3, side + 1, 100, 0, stamped->has_field};
+        start_input(&input, side == 0 ? CALL_SECURE : CALL_CHECK, &setting);
+        input.numbers[0] = 63;
+        input.frame_length = stamped->length;
+        memset(input.frame, 0xAA, stamped->length);
+        octets_of(stamped->has_ocf ? "01 BB 00 00 80 00" : "01 BA 00 00 80 00", input.frame);
+        input.frame[6] = stamped->first;
+        if (side == 1) {
+            uint8_t *security_header = input.frame + 7 + (stamped->first & 63);
+            security_header[0] = 0;
+            security_header[1] = 9;
+        }
+        if (stamped->has_field) {
+            write_check_field(input.frame, input.frame_length);
+        }
+        expect(both_run(&test_random, &input).answer == (side == 0 ? stamped->secured : stamped->checked), stamped->name, "another answer");
+    }
+    passed++;
+}
+
+/* A clear frame of TM with a secondary header of so many octets, and an operational control field. */
+static size_t stamped_clear_frame(size_t octets, bool has_field, size_t length, uint8_t *frame)
+{
+    clear_frame(3, false, length, frame);
+    frame[4] = 0x80;
+    frame[6] = (uint8_t)(octets - 1);
+    if (has_field) {
+        write_check_field(frame, length);
+    }
+    return length;
+}
+
+/* Every bit of a frame with a check field and a secondary header of so many octets, clear and secured: the header flag and the length of the
+ * secondary header are among them. */
+static void try_every_bit_of_stamp(size_t octets, unsigned service)
+{
+    static struct input sent, received;
+    const struct setting here = SEND_WITH_FIELD(service, 3, 0), there = RECEIVE_WITH_FIELD(service, 3, 100, 0);
+    start_input(&sent, CALL_SECURE, &here);
+    sent.numbers[0] = 63;
+    sent.frame_length = stamped_clear_frame(octets, true, 6 + octets + 10 + 4 + CHECK_FIELD_LENGTH, sent.frame);
+    expect_every_bit(&sent);
+    struct outcome securing = both_run(&test_random, &sent);
+    start_input(&received, CALL_CHECK, &there);
+    received.numbers[0] = 63;
+    received.frame_length = securing.length;
+    memcpy(received.frame, sent.output, securing.length);
+    expect_every_bit(&received);
+}
+
+/* Frames with every secondary header: what goes out has it octet for octet, a bit of it changed is refused, and the data alone comes back.
+ * The mask has bits that are 0 in every octet, so a secondary header under the mask, or not under the MAC, would be seen here. */
+static void try_every_stamp(unsigned service, bool has_field)
+{
+    static const char name[] = "every secondary header";
+    static struct input sent, received;
+    const struct setting here = {service, 3, 1, 100, 0, has_field}, there = {service, 3, 2, 100, 0, has_field};
+    for (size_t octets = 2; octets <= 64; octets++) {
+        size_t header = 6 + octets, clear_length = header + 10 + 4 + (has_field ? CHECK_FIELD_LENGTH : 0);
+        start_input(&sent, CALL_SECURE, &here);
+        sent.numbers[0] = 63;
+        sent.frame_length = stamped_clear_frame(octets, has_field, clear_length, sent.frame);
+        uint8_t clear[FRAME_ROOM];
+        memcpy(clear, sent.frame, clear_length);
+        struct outcome securing = both_run(&test_random, &sent);
+        expect(securing.answer == 0 && memcmp(sent.output, clear, header) == 0, name, "it is not copied");
+        for (size_t at = 7; at <= header; at++) { /* each of its octets but the first, then none */
+            start_input(&received, CALL_CHECK, &there);
+            received.numbers[0] = 63;
+            received.frame_length = securing.length;
+            memcpy(received.frame, sent.output, securing.length);
+            received.frame[at] ^= at < header ? 0x10 : 0;
+            if (has_field) { /* or it would be 12 */
+                write_check_field(received.frame, received.frame_length);
+            }
+            unsigned answer = both_run(&test_random, &received).answer;
+            expect(answer == (at < header ? 7u : 0u), name, "a changed octet of it is not refused by 7, or none is");
+        }
+        expect(memcmp(received.output, clear + header, 10) == 0 && received.output[10] == 0x5A, name, "not the data alone was released");
+        passed++;
+    }
 }
 
 /* ---- cuts, as a table ---- */
@@ -567,6 +713,15 @@ int main(void)
             try_every_bit(CALL_SECURE, kind, service);
             try_every_bit(CALL_CHECK, kind, service);
         }
+    }
+    for (size_t i = 0; i < sizeof stamped_frames / sizeof stamped_frames[0]; i++) {
+        try_stamped_frame(&stamped_frames[i]);
+    }
+    for (unsigned service = 1; service <= 2; service++) {
+        try_every_stamp(service, false);
+        try_every_stamp(service, true);
+        try_every_bit_of_stamp(2, service);
+        try_every_bit_of_stamp(64, service);
     }
     try_listing("listing of B", &new_image, 0, "spi service kind direction state window next\n9 1 1 1 2 100 64\n");
     try_listing("listing of K", &last_image, 0, "spi service kind direction state window next\n9 1 1 1 2 100 none\n");

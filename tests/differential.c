@@ -5,7 +5,9 @@
  *
  * An input is one call. Inputs come in worlds: two ends of a link with random associations, and about forty calls on them. The generator of
  * world W is made from the seed and W alone, so --from W takes a run up there. At the end the answers are counted by call, kind and service
- * of the association that the input was made for, TM associations with a set of channels apart; a long run that misses an answer that can be reached fails. */
+ * of the association that the input was made for, TM associations with a set of channels and TM frames with a secondary header apart; a long
+ * run that misses an answer that can be reached fails, and a longer one that misses a length of a secondary header, with a check field or
+ * without, or changed no frame with both in each bit. */
 #include "support/both.h"
 #include "support/options.h"
 #include "support/worlds.h"
@@ -14,7 +16,8 @@
 #include <stdio.h>
 #include <string.h>
 
-enum { CALLS_PER_WORLD = 40, KINDS = 4, SET_ROW = KINDS + 1, ROWS, ANSWERS = 13, ENOUGH_FOR_EVERY_ANSWER = 50000 };
+enum { CALLS_PER_WORLD = 40, KINDS = 4, SET_ROW = KINDS + 1, STAMP_ROW, ROWS, ANSWERS = 13, ENOUGH_FOR_EVERY_ANSWER = 50000 };
+enum { MOST_SECONDARY = 64, ENOUGH_FOR_EVERY_LENGTH = 200000 }; /* octets of a secondary header */
 
 struct run {
     struct options options;
@@ -23,9 +26,12 @@ struct run {
     uint64_t raises;
     uint64_t round_trips;
     uint64_t isolations;
-    uint64_t flips; /* frames with a right check field, each of whose bits was changed */
-    uint64_t stores[MOST_STORES + 1]; /* checks that were done, by their stores */
-    /* call; kind, or 0 for a number that names none, or SET_ROW for a TM association with a set; service, or 0 for an empty image; answer */
+    uint64_t flips;         /* frames with a right check field, each of whose bits was changed */
+    uint64_t stamped_flips; /* those of them that have a secondary header */
+    uint64_t stores[MOST_STORES + 1];          /* checks that were done, by their stores */
+    uint64_t secondary[2][MOST_SECONDARY + 1]; /* those of TM frames, by whether they end in a check field and the octets of the secondary header */
+    /* call; kind, or 0 for a number that names none, SET_ROW for a TM association with a set, or STAMP_ROW for a TM frame whose header flag is
+     * 1; service, or 0 for an empty image; answer */
     uint64_t tally[3][ROWS][3][ANSWERS];
 };
 
@@ -286,7 +292,27 @@ static void junk(struct random *random, struct input *input)
     set_frame_length(input, length, random_percent(random, 60));
 }
 
-static void break_frame(struct random *random, struct input *input, const uint8_t *other, size_t other_length)
+/* The header flag or the first octet of a secondary header is another, or the frame ends near its end. */
+static void strain_secondary_header(struct random *random, struct input *input)
+{
+    uint8_t *frame = input->frame;
+    switch (random_below(random, 4)) {
+    case 0:
+        frame[4] ^= 0x80;
+        break;
+    case 1:
+        frame[6] = (uint8_t)RANDOM_OF(random, 0, 1, 2, 62, 63, 64, 65, 127, 128, 191, 192, 255);
+        break;
+    case 2:
+        frame[6] = (uint8_t)random_below(random, 256);
+        break;
+    default:
+        input->frame_length = 6 + (random_percent(random, 20) ? 0 : (frame[6] & 63u)) + random_below(random, 30);
+        break;
+    }
+}
+
+static void break_octets(struct random *random, struct input *input, const uint8_t *other, size_t other_length)
 {
     size_t length = input->frame_length;
     switch (random_below(random, 8)) {
@@ -310,6 +336,15 @@ static void break_frame(struct random *random, struct input *input, const uint8_
     default:
         junk(random, input);
         break;
+    }
+}
+
+static void break_frame(struct random *random, struct input *input, const uint8_t *other, size_t other_length)
+{
+    if (input->kind == 3 && input->frame_length > 6 && random_percent(random, 30)) {
+        strain_secondary_header(random, input);
+    } else {
+        break_octets(random, input, other, other_length);
     }
     close_again(random, input);
 }
@@ -335,26 +370,42 @@ static void break_rest(struct random *random, struct input *input)
 
 /* ---- running ---- */
 
+/* Whether it is a TM frame whose header flag is 1. */
+static bool is_stamped(const struct input *input)
+{
+    return input->kind == 3 && input->frame_length > 4 && (input->frame[4] & 0x80) != 0;
+}
+
 static void count_outcome(struct run *run, const struct input *input, const struct target *target, const struct outcome *outcome)
 {
     unsigned kind = input->which == CALL_LOAD ? target->association.kind : input->kind;
     unsigned service = target->is_held ? target->association.service : 0;
     unsigned row = kind <= KINDS ? kind : 0;
+    bool has_stamp = input->which != CALL_LOAD && is_stamped(input);
     run->inputs++;
-    run->tally[input->which][kind == 3 && target->association.has_set ? SET_ROW : row][service][outcome->answer]++;
+    if (has_stamp) {
+        row = STAMP_ROW;
+    } else if (kind == 3 && target->association.has_set) {
+        row = SET_ROW;
+    }
+    run->tally[input->which][row][service][outcome->answer]++;
     if (input->which == CALL_CHECK && outcome->answer == 0) {
         run->stores[outcome->stores]++;
+        run->secondary[input->check_field != 0][has_stamp ? input->frame[6] + 1 : 0]++;
     }
 }
 
-/* The SPI that a call goes by: the argument, or the frame's; 0 where a frame is too short to have one. */
+/* The SPI that a call goes by: the argument, or the frame's; 0 where a frame does not obey its kind. */
 static unsigned spi_of(const struct input *input)
 {
-    size_t header = input->kind == 1 ? 5 : 6;
+    struct header header;
     if (input->which == CALL_SECURE) {
         return input->spi;
     }
-    return input->frame_length < header + 2 ? 0 : input->frame[header] * 256u + input->frame[header + 1];
+    if (!read_secured_frame(input->kind, input->check_field != 0, input->frame, input->frame_length, &header)) {
+        return 0;
+    }
+    return input->frame[header.length] * 256u + input->frame[header.length + 1];
 }
 
 /* 'other projects' bodies change nothing': the same call on an image in which every other association is another one. */
@@ -416,10 +467,12 @@ static void try_round_trip(struct run *run, const struct input *sent, const stru
     static struct input input;
     struct random *random = &run->random;
     struct table table;
-    struct header secured;
+    struct header clear;
     table_of(other, &table);
-    bool is_read = read_secured_frame(sent->kind, sent->check_field != 0, sent->output, securing->length, &secured);
-    if (is_read && !serves_channel(&table.entries[target->entry], secured.channel)) {
+    if (!read_clear_frame(sent->kind, sent->check_field != 0, sent->frame, sent->frame_length, &clear)) {
+        both_fail("a frame was secured that does not obey its kind");
+    }
+    if (!serves_channel(&table.entries[target->entry], clear.channel)) {
         return;
     }
     table.entries[target->entry].state = 2;
@@ -427,10 +480,7 @@ static void try_round_trip(struct run *run, const struct input *sent, const stru
     uint32_t window = table.entries[target->entry].window;
     set_number(other, target->entry, number - random_between(random, 1, number < window ? number : window));
 
-    size_t header = target->association.kind == 1 ? 5 : 6;
-    size_t trailer = target->association.kind == 3 && (sent->frame[1] & 1) != 0 ? 4 : 0;
-    trailer += sent->check_field != 0 ? CHECK_FIELD_LENGTH : 0;
-    size_t data_length = sent->frame_length - header - trailer;
+    size_t data_length = sent->frame_length - clear.length - clear.trailer;
     input_of_end(&input, CALL_CHECK, other);
     input.kind = sent->kind;
     input.check_field = sent->check_field != 0 ? (uint8_t)random_between(random, 1, 255) : 0;
@@ -441,7 +491,7 @@ static void try_round_trip(struct run *run, const struct input *sent, const stru
         input.output_length = data_length;
     }
     struct outcome checking = run_input(run, &input, target, other);
-    if (checking.answer != 0 || checking.length != data_length || memcmp(input.output, sent->frame + header, data_length) != 0) {
+    if (checking.answer != 0 || checking.length != data_length || memcmp(input.output, sent->frame + clear.length, data_length) != 0) {
         both_fail("what one end secured was not released at the other");
     }
     if (run_input(run, &input, target, other).answer != 8) {
@@ -489,6 +539,7 @@ static void try_flips(struct run *run, const struct input *input)
         run->inputs++;
     }
     run->flips++;
+    run->stamped_flips += is_stamped(input);
 }
 
 static void try_secure(struct run *run, struct world *world, size_t side)
@@ -582,14 +633,14 @@ static void try_check(struct run *run, struct end *end)
     do {
         input.frame_length = make_secured_frame(run, association, has_field, last, input.frame);
     } while (input.frame_length == 0);
-    size_t added = (association->kind == 1 ? 5u : 6u) + security_header_length(association->service) + MAC_LENGTH;
-    added += has_field ? CHECK_FIELD_LENGTH : 0;
     if (random_percent(random, 30)) {
         size_t other_length = make_secured_frame(run, association, has_field, last, other_frame);
         break_frame(random, &input, other_frame, other_length);
     }
-    if (association->kind == 3 && input.frame_length > 1) {
-        added += (input.frame[1] & 1) != 0 ? 4 : 0;
+    struct header header;
+    size_t added = security_header_length(association->service) + MAC_LENGTH;
+    if (read_secured_frame(association->kind, has_field, input.frame, input.frame_length, &header)) {
+        added += header.length + header.trailer;
     }
     any_output(random, &input, input.frame_length > added ? input.frame_length - added : 1);
     break_rest(random, &input);
@@ -685,10 +736,22 @@ static unsigned faults_of_row(unsigned which, unsigned kind, const uint64_t answ
     return faults;
 }
 
+/* Whether a length of a secondary header was never released. */
+static unsigned print_secondary(const struct run *run, unsigned has_field)
+{
+    uint64_t fewest = UINT64_MAX;
+    for (unsigned octets = 2; octets <= MOST_SECONDARY; octets++) {
+        fewest = run->secondary[has_field][octets] < fewest ? run->secondary[has_field][octets] : fewest;
+    }
+    printf("checks done of frames with a secondary header and %s check field, for each of its lengths, 2 to %d: at least %" PRIu64 "\n",
+           has_field ? "a" : "no", MOST_SECONDARY, fewest);
+    return fewest == 0;
+}
+
 static unsigned print_tally(const struct run *run)
 {
     static const char *const calls[] = {"load", "secure", "check"};
-    static const char *const names[ROWS] = {"-", "1", "2", "3", "4", "set"};
+    static const char *const names[ROWS] = {"-", "1", "2", "3", "4", "set", "3+"};
     unsigned faults = 0;
     printf("%-6s %4s %7s", "call", "kind", "service");
     for (unsigned answer = 0; answer < ANSWERS; answer++) {
@@ -698,7 +761,7 @@ static unsigned print_tally(const struct run *run)
     for (unsigned which = 0; which < 3; which++) {
         for (unsigned kind = 0; kind < ROWS; kind++) {
             for (unsigned service = 0; service < 3; service++) {
-                bool is_whole = kind != 0 && service != 0;
+                bool is_whole = kind != 0 && service != 0 && (kind != STAMP_ROW || which != CALL_LOAD);
                 print_row(calls[which], names[kind], names[service], run->tally[which][kind][service]);
                 faults += is_whole ? faults_of_row(which, kind, run->tally[which][kind][service]) : 0;
             }
@@ -723,9 +786,12 @@ int main(int argument_count, char **arguments)
         run_world(&run, world++);
     }
     unsigned faults = print_tally(&run);
+    unsigned missing = print_secondary(&run, 0) + print_secondary(&run, 1) + (run.stamped_flips == 0);
+    faults += run.options.count >= ENOUGH_FOR_EVERY_LENGTH ? missing : 0;
     printf("differential: seed %" PRIu64 ", %" PRIu64 " inputs in %" PRIu64 " worlds, of them %" PRIu64 " cuts and %" PRIu64
-           " with every other association changed; %" PRIu64 " round trips, %" PRIu64 " frames changed in each bit; no difference\n",
-           run.options.seed, run.inputs, world - run.options.from, run.raises, run.isolations, run.round_trips, run.flips);
+           " with every other association changed; %" PRIu64 " round trips, %" PRIu64 " frames changed in each bit, of them %" PRIu64
+           " with a secondary header; no difference\n",
+           run.options.seed, run.inputs, world - run.options.from, run.raises, run.isolations, run.round_trips, run.flips, run.stamped_flips);
     if (faults != 0 && run.options.count >= ENOUGH_FOR_EVERY_ANSWER) {
         printf("differential: %u of the counts above are 0 and should not be, or the other way round\n", faults);
         return 1;

@@ -158,12 +158,13 @@ static void call_watched(void)
 
 /* ---- the inputs ---- */
 
-static size_t header_length(void) { return association.kind == 1 ? 5 : 6; }
+/* A TM frame has the longest secondary header. */
+static size_t header_length(void) { return association.kind == 1 ? 5 : association.kind == 3 ? 6 + 64 : 6; }
 
 /* The receiving end of an association, and a frame for it with so much data and this number. */
 static void make_input(unsigned kind, size_t data_length, uint64_t number)
 {
-    static const uint8_t headers[4][6] = {{0x00, 0x1B, 0x14}, {0x00, 0x1B, 0x14}, {0x01, 0xBA}, {0x46, 0xC5}};
+    static const uint8_t headers[4][6] = {{0x00, 0x1B, 0x14}, {0x00, 0x1B, 0x14}, {0x01, 0xBA, 0x00, 0x00, 0x80}, {0x46, 0xC5}};
     struct table table = {.version = 1, .count = 1};
     struct header header;
     uint8_t clear[LARGEST_FRAME], sequence[SEQUENCE_LENGTH];
@@ -177,6 +178,7 @@ static void make_input(unsigned kind, size_t data_length, uint64_t number)
     memset(numbers, 0, sizeof numbers);
     numbers[0] = LAST;
     size_t clear_length = header_length() + data_length;
+    memset(clear, 63, header_length());
     memcpy(clear, headers[kind - 1], 6);
     for (size_t i = 0; i < data_length; i++) {
         clear[header_length() + i] = (uint8_t)(200 - 3 * i);

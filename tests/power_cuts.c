@@ -115,17 +115,27 @@ static void note_released(struct run *run, struct history *history, uint32_t num
 
 /* ---- calls ---- */
 
-/* The number that a secured frame carries, read from its octets. */
-static uint32_t number_in(const uint8_t *frame, const struct association *association)
-{
-    size_t end = (association->kind == 1 ? 5u : 6u) + security_header_length(association->service);
-    return (uint32_t)frame[end - 4] << 24 | (uint32_t)frame[end - 3] << 16 | (uint32_t)frame[end - 2] << 8 | frame[end - 1];
-}
-
 /* Every second association but AOS has a check field in its frames. */
 static bool ends_in_field(const struct association *association)
 {
     return association->kind != 4 && association->spi % 2 == 0;
+}
+
+/* What the header of a secured frame says. */
+static struct header header_in(const uint8_t *frame, size_t length, const struct association *association)
+{
+    struct header header;
+    if (!read_secured_frame(association->kind, ends_in_field(association), frame, length, &header)) {
+        both_fail("a frame that went out does not obey its kind");
+    }
+    return header;
+}
+
+/* The number that a secured frame carries, read from its octets. */
+static uint32_t number_in(const uint8_t *frame, size_t length, const struct association *association)
+{
+    size_t end = header_in(frame, length, association).length + security_header_length(association->service);
+    return (uint32_t)frame[end - 4] << 24 | (uint32_t)frame[end - 3] << 16 | (uint32_t)frame[end - 2] << 8 | frame[end - 1];
 }
 
 /* Prepares a sending of one to twenty octets of data. */
@@ -142,27 +152,15 @@ static void prepare_sending(struct run *run, size_t side, size_t entry, struct a
     input->output_length = SMALL_FRAME;
 }
 
-/* The channel of a secured frame. */
-static unsigned channel_in(const uint8_t *frame, size_t length, const struct association *association)
-{
-    struct header header;
-    if (!read_secured_frame(association->kind, ends_in_field(association), frame, length, &header)) {
-        both_fail("a frame that went out does not obey its kind");
-    }
-    return header.channel;
-}
-
 static void keep_frame(struct run *run, struct history *history, const struct association *association, size_t length)
 {
     struct sent_frame *kept = &history->frames[history->frame_count++ % FRAMES_KEPT];
-    size_t header = association->kind == 1 ? 5 : 6;
-    size_t trailer = association->kind == 3 && (run->input.frame[1] & 1) != 0 ? 4 : 0;
-    trailer += ends_in_field(association) ? CHECK_FIELD_LENGTH : 0;
+    struct header header = header_in(run->input.output, length, association);
     kept->length = length;
     memcpy(kept->frame, run->input.output, length);
-    kept->number = number_in(kept->frame, association);
-    kept->data_length = run->input.frame_length - header - trailer;
-    memcpy(kept->data, run->input.frame + header, kept->data_length);
+    kept->number = number_in(kept->frame, length, association);
+    kept->data_length = run->input.frame_length - header.length - header.trailer;
+    memcpy(kept->data, run->input.frame + header.length, kept->data_length);
 }
 
 static void send(struct run *run, size_t side, size_t entry)
@@ -179,8 +177,8 @@ static void send(struct run *run, size_t side, size_t entry)
         return;
     }
     end_of_input(&run->world.ends[side], &run->input);
-    note_sent(run, &run->histories[entry], number_in(run->input.output, &association),
-              channel_in(run->input.output, outcome.length, &association));
+    note_sent(run, &run->histories[entry], number_in(run->input.output, outcome.length, &association),
+              header_in(run->input.output, outcome.length, &association).channel);
     keep_frame(run, &run->histories[entry], &association, outcome.length);
 }
 
@@ -216,7 +214,7 @@ static void check(struct run *run, size_t side, size_t entry)
     uint32_t last = run->input.numbers[entry];
     bool is_in_window = last < frame->number && frame->number - last <= association.window;
     struct outcome outcome = both_run(&run->random, &run->input);
-    bool is_served = serves_channel(&association, channel_in(frame->frame, frame->length, &association));
+    bool is_served = serves_channel(&association, header_in(frame->frame, frame->length, &association).channel);
     if (!run->is_tampered && outcome.answer != (!is_served ? 4 : is_in_window ? 0 : 8)) {
         both_fail("demand 2: a frame as it was sent was not released in the window, or not refused by 8 outside it or by 4 for its channel");
     }
@@ -225,8 +223,8 @@ static void check(struct run *run, size_t side, size_t entry)
         return;
     }
     end_of_input(&run->world.ends[side], &run->input);
-    note_released(run, &run->histories[entry], number_in(run->input.frame, &association));
-    if (number_in(run->input.frame, &association) != frame->number || outcome.length != frame->data_length
+    note_released(run, &run->histories[entry], number_in(run->input.frame, run->input.frame_length, &association));
+    if (number_in(run->input.frame, run->input.frame_length, &association) != frame->number || outcome.length != frame->data_length
         || memcmp(run->input.output, frame->data, frame->data_length) != 0) {
         both_fail("data were released that were not sent under that number");
     }

@@ -94,12 +94,13 @@ static void make_ends(unsigned service)
     }
 }
 
-/* The largest clear frame that can be secured. A TM frame has an operational control field, and all but AOS end in a check field. */
+/* The largest clear frame that can be secured. A TM frame has the longest secondary header and an operational control field, and all but AOS
+ * end in a check field. */
 static void make_frame(unsigned service)
 {
-    static const uint8_t headers[4][6] = {{0x00, 0x1B, 0x14}, {0x00, 0x1B, 0x14}, {0x01, 0xBB}, {0x46, 0xC5}};
+    static const uint8_t headers[4][6] = {{0x00, 0x1B, 0x14}, {0x00, 0x1B, 0x14}, {0x01, 0xBB, 0x00, 0x00, 0x80}, {0x46, 0xC5}};
     clear_length = (has_length_field(kind) ? 1024 : 2048) - security_header_length(service) - MAC_LENGTH;
-    memset(clear, 0xAA, clear_length);
+    memset(clear, 0x3F, clear_length); /* so that octet 6 of a TM frame counts 64 octets less one */
     memcpy(clear, headers[kind - 1], 6);
     if (has_length_field(kind)) {
         write_tc_length(clear, clear_length);

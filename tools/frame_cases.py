@@ -1,8 +1,8 @@
 #!/usr/bin/env python3
 """Makes crates/frame_cases/stdin, the frames, and crates/frame_cases/stdout, the answers expected on them.
 
-The answers are read off document 01 ('Frames', 'The image', 'What comes back') and document 02 (requests 1 and 4) here, over strings of bits, and not off
-the code:
+The answers are read off document 01 ('Frames', 'The image', 'What comes back') and document 02 (requests 1, 4 and 6) here, over strings of
+bits, and not off the code:
 
   python3 tools/frame_cases.py
 """
@@ -53,17 +53,31 @@ def right_field(field, frame):
     return not field or (len(frame) >= 2 and frame[-2:] == check_field(frame[:-2]))
 
 
+def has_secondary(kind, frame):
+    return kind == 3 and unpack(3, frame)["status"] >= 2**15
+
+
+def secondary(frame):
+    """The fields of the first octet behind the primary header of TM; past the frame's end they are 0."""
+    octet = format(frame[6] if len(frame) > 6 else 0, "08b")
+    return dict(edition=int(octet[:2], 2), less_one=int(octet[2:], 2))
+
+
+def header_length(kind, frame):
+    return width(kind) // 8 + (secondary(frame)["less_one"] + 1 if has_secondary(kind, frame) else 0)
+
+
 def obeys(kind, field, frame, secured):
     if kind not in KINDS or (kind == 4 and field):
         return False
-    v, h = unpack(kind, frame), width(kind) // 8
+    v, h = unpack(kind, frame), header_length(kind, frame)
     f = trailer(kind, field, frame)
     if len(frame) < h + (2 if secured else 1) + f or len(frame) > KINDS[kind]["largest"] or v["version"] != version(kind):
         return False
     if kind == 4:
         return True
     if kind == 3:
-        return v["status"] < 2 ** 15
+        return not has_secondary(3, frame) or (secondary(frame)["edition"] == 0 and secondary(frame)["less_one"] >= 1)
     return v["control"] == 0 and v["spare"] == 0 and v["length"] == len(frame) - 1
 
 
@@ -84,7 +98,7 @@ def rewritten(kind, frame, n):
 def line(number, secured, field, security, mask, frame):
     out = [number, int(obeys(number, field, frame, secured))]
     if number in KINDS:
-        kind, n, v, h = KINDS[number], len(frame), unpack(number, frame), width(number) // 8
+        kind, n, v, h = KINDS[number], len(frame), unpack(number, frame), header_length(number, frame)
         f = trailer(number, field, frame)
         out += [h, kind["largest"], v["spacecraft"], v["channel"], v.get("map", 0)]
         out += kind["most"]
@@ -92,7 +106,8 @@ def line(number, secured, field, security, mask, frame):
         out += [f, h, end, max(n - 2 * field, 0), h, h + security, max(end - 16, 0), end, n + security + 16]
         out += [int(n + security + 16 > kind["largest"]), int(n < h + security + 1 + 16 + f), int(right_field(field, frame))]
         header = bytes(x & m for x, m in zip(frame[:h], mask)) + frame[:h][len(mask) :]
-        out += [len(header), *(header + bytes([165] * 8))[: max(8, len(header))]]
+        # the output has room for eight octets, and stays as it is where the header has more
+        out += [len(header), *(header + bytes([165] * 8))[:8]] if len(header) <= 8 else [165] * 8
         out += [int(holds_length(number, frame)), *(rewritten(number, frame, n + security + 16) + bytes(8))[:8]]
     return " ".join(str(x) for x in out)
 
@@ -129,6 +144,16 @@ def main():
                 good = dict(version=version(number), spacecraft=27, channel=5, map=9, length=39)
                 good[name] = value
                 add(number, pack(number, good), 40, 14)
+        # secondary headers: every length where the frame just holds it, and a check field behind it, the shortest and the longest at every limit, and wrong versions
+        for first in range(256) if number == 3 else ():
+            for ocf in (0, 1):
+                good = pack(3, dict(spacecraft=27, channel=5, ocf=ocf, status=2**15 + 77)) + bytes([first])
+                end, f = 6 + first % 64 + 1, 4 * ocf
+                sizes = {end + f + d for d in range(5)}
+                if first in (0, 1, 2, 62, 63):
+                    sizes |= {4, 5, 6, 7, 8, end - 1, end, end + 1, end + 2} | {end + f + d for d in (22, 23, 24, 25, 30, 31, 32, 33)}
+                for n in sorted(sizes) if first < 64 else (6, 200) if first % 64 in (0, 1, 63) else ():
+                    add(3, good, n, (6, 14)[n % 2], masks[n % 5])
         for mask in masks:
             for n in (0, 3, h - 1, h, h + 1, 40):
                 most = dict(spacecraft=KINDS[number]["most"][0], channel=5, bypass=1, sequence=255, map=63, flags=3, count=2**24 - 1, length=39)
@@ -142,7 +167,7 @@ def main():
     here = os.path.join(os.path.dirname(os.path.abspath(__file__)), "..", "crates", "frame_cases")
     with open(os.path.join(here, "stdin"), "w") as stdin, open(os.path.join(here, "stdout"), "w") as stdout:
         for number, secured, field, security, mask, frame in cases:
-            front, last = (frame + bytes(6))[:6], (bytes(2) + frame)[-2:]
+            front, last = (frame + bytes(7))[:7], (bytes(2) + frame)[-2:]
             said = bytes([number, secured, field, security, len(mask)])
             stdin.write((said + len(frame).to_bytes(2, "big") + front + last + (mask + bytes(6))[:6]).hex() + "\n")
             stdout.write(line(number, secured, field, security, mask, frame) + "\n")

@@ -147,9 +147,10 @@ TM = [
     ("OCF", 1, LENGTH, "flag"),
     ("master channel count", 8, FREE, "any"),
     ("virtual channel count", 8, FREE, "any"),
-    ("flag", 1, FIXED, "0"),
+    ("flag", 1, LENGTH, "0, 1"),
     ("rest of the data field status", 15, FREE, "any"),
 ]
+SECONDARY = [("version", 2, FIXED, "0"), ("length", 6, LENGTH, "its octets less one, 1 to 63")]
 AOS = [
     ("version", 2, FIXED, "01"),
     ("spacecraft", 8, NAMES, "0 to 255"),
@@ -203,8 +204,11 @@ def tc_segment_header():
 
 def tm_header():
     note = "OCF flag 1: the last 4 octets of the frame are the operational control field. Largest frame: 2,048 octets."
-    p = header("tm-header", "TM header (kind 3): 6 octets", note, TM, 6)
-    p.note(p.bottom + 20, "The flag that opens the data field status would announce a secondary header.")
+    p = header("tm-header", "TM header (kind 3): 6 octets, and where its flag is 1 a secondary header of 2 to 64", note, TM + SECONDARY, 7)
+    y = 92 + 122 * 3
+    p.text(LEFT + UNIT * 12, y - 22, "octets 7 to h - 1", 12.5, weight="bold")
+    p.box(LEFT + UNIT * 8, y, UNIT * 8, 70, FREE, ["rest of the secondary header", "1 to 63 octets", "any"], dashes="5 4")
+    p.note(p.bottom + 20, "The flag that opens the data field status announces the secondary header. With flag 0 the data begins at octet 6.")
     return p
 
 
@@ -241,11 +245,10 @@ def secured_rows(p, y, service, ocf):
     field = 4 if service == 1 else 12
 
     def place(behind, data=False):
-        """So many octets behind the header, and behind the data too. A frame with OCF is TM, so its h is 6."""
-        known = str(6 + behind) if ocf else ("h" if behind == 0 else f"h+{behind}")
-        return known + ("+n" if data else "")
+        """So many octets behind the header, and behind the data too."""
+        return ("h" if behind == 0 else f"h+{behind}") + ("+n" if data else "")
 
-    h = "6 octets" if ocf else "h octets"
+    h = "h octets"
     # A part has the same width in both rows.
     head, spi, number, data, mac, trailer = 120, 74, 148, 252, 116, 154
     clear = [("header", head, NAMES, ["header", h], "0"), ("data", data, DATA, ["data", "n octets"], place(0))]
@@ -280,14 +283,16 @@ def secured(service):
     name = f"secured-service-{service}"
     p = Picture(name, f"Service {service}, {what}: a clear frame and the secured one")
     size = 6 if service == 1 else 14
-    sizes = f"h is 5 for kind 1 and 6 for kinds 2 to 4; n is at least 1. The secured frame is {size + 16} octets longer."
-    heading(p, p.title, sizes + " Widths are not to scale.")
+    sizes = f"h is 5 for kind 1, else 6, and 8 to 70 with a secondary header; n is at least 1. The secured frame is {size + 16} octets longer."
+    heading(p, p.title, sizes)
     p.text(LEFT, 80, "Without OCF: TC, AOS, and TM with OCF flag 0", 14, "start", "bold")
     secured_rows(p, 110, service, False)
     y = p.bottom + 34
     p.text(LEFT, y, "With OCF: TM with OCF flag 1", 14, "start", "bold")
     secured_rows(p, y + 30, service, True)
     p.note(p.bottom + 26, "In TC the length field in the header is rewritten for the longer frame before the MAC is made.")
+    p.note(p.bottom + 14, "In TM a secondary header is the end of the header: it is copied, and covered as it is, since the mask has 6 octets.")
+    p.note(p.bottom + 14, "Widths are not to scale.")
     if service == 2:
         p.note(p.bottom + 14, "The IV is the number, big-endian in 12 octets. What is sent has 0 in the first 8 of them.")
     return p

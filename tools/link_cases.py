@@ -1,7 +1,7 @@
 #!/usr/bin/env python3
 """Makes crates/link_cases/stdin, calls of the module, and crates/link_cases/stdout, what is expected to come back and to change.
 
-All of it is read off document 01, and requests 1, 2 and 4 of document 02, here, over whole numbers and strings of octets, and not off the code;
+All of it is read off document 01, and requests 1, 2, 4 and 6 of document 02, here, over whole numbers and strings of octets, and not off the code;
 AES is OpenSSL's. Each call below states the answer that the paper gives it, and the reading is held to that as well:
 
   python3 tools/link_cases.py        (needs the Python package `cryptography`)
@@ -141,9 +141,11 @@ def tc(size, data, bypass=0, sequence=0, spacecraft=27, channel=5, segment=None,
     return header + (b"" if segment is None else packed((segment[0], 2), (segment[1], 6))) + data
 
 
-def tm(data, ocf=b"", counts=(0, 0), status=0, spacecraft=27, channel=5, version=0):
+def tm(data, ocf=b"", counts=(0, 0), status=0, spacecraft=27, channel=5, version=0, stamp=b""):
+    """A TM frame; a stamp is what a secondary header holds behind its first octet, whose length field is the octets of the stamp."""
+    status += 2**15 if stamp else 0
     header = packed((version, 2), (spacecraft, 10), (channel, 3), (len(ocf) // 4, 1), (counts[0], 8), (counts[1], 8), (status, 16))
-    return header + data + ocf
+    return header + (packed((0, 2), (len(stamp), 6)) + stamp if stamp else b"") + data + ocf
 
 
 def aos(data, count=0, signalling=0, spacecraft=27, channel=5, version=1):
@@ -171,18 +173,27 @@ def trailer(kind, frame, field):
     return (4 if kind == 3 and bits(frame, 15, 1) else 0) + (2 if field else 0)
 
 
+def has_secondary(kind, frame):
+    return kind == 3 and bits(frame, 32, 1) == 1
+
+
+def header_length(kind, frame):
+    """h, of a frame that is as long as its primary header at least; its secondary header counts all of its octets less one."""
+    return HEADER[kind] + (bits(frame, 50, 6) + 1 if has_secondary(kind, frame) else 0)
+
+
 def is_frame(kind, frame, least, field):
     """Whether the frame keeps its kind's header rules, length field and size: with at least so many octets behind its header."""
     if kind not in HEADER or not HEADER[kind] <= len(frame) <= LARGEST[kind] or (kind == 4 and field):
         return False
-    if len(frame) < HEADER[kind] + least + trailer(kind, frame, field):
+    if has_secondary(kind, frame) and (len(frame) == 6 or bits(frame, 48, 2) != 0 or bits(frame, 50, 6) == 0):
+        return False
+    if len(frame) < header_length(kind, frame) + least + trailer(kind, frame, field):
         return False
     if bits(frame, 0, 2) != (1 if kind == 4 else 0):
         return False
-    if kind == 4:
+    if kind in (3, 4):
         return True
-    if kind == 3:
-        return bits(frame, 32, 1) == 0
     return bits(frame, 3, 1) == 0 and bits(frame, 4, 2) == 0 and bits(frame, 22, 10) == len(frame) - 1
 
 
@@ -211,6 +222,11 @@ def masked(octets, mask):
     return bytes(x & mask[i % len(mask)] for i, x in enumerate(octets))
 
 
+def covered(header, mask):
+    """A header as the MAC covers it: six octets under the mask, and a secondary header under ones."""
+    return masked(header[:6], mask) + header[6:]
+
+
 def protected(e, iv, before, data):
     """The data as it goes out, and the MAC."""
     if e.service == 2:
@@ -229,23 +245,25 @@ SLIPS = [
     "data not covered",
     "security header not covered",
     "another key",
+    "secondary header masked",
+    "secondary header not covered",
 ]
 
 
 def secured_frame(e, kind, frame, n, slip=None, field=False):
     """The secured frame of a clear one. A slip makes its MAC as the paper does not."""
-    h, f = HEADER[kind], trailer(kind, frame, field)
+    h, f = header_length(kind, frame), trailer(kind, frame, field)
     header, data, ocf = frame[:h], frame[h : len(frame) - f], frame[len(frame) - f : len(frame) - 2 * field]
     size = len(frame) + SECURITY[e.service] + 16
     sent = header if kind in (3, 4) else header[:2] + packed((bits(header, 16, 6), 6), (size - 1, 10)) + header[4:]
     iv = n.to_bytes(SECURITY[e.service] - 2, "big")
     security = e.spi.to_bytes(2, "big") + iv
-    before = masked(sent, e.mask) + security
+    before = covered(sent, e.mask) + security
     out, mac = protected(e, iv, before, data)
     if slip == "security header masked":
-        mac = protected(e, iv, masked(sent, e.mask) + masked(security, e.mask), data)[1]
+        mac = protected(e, iv, covered(sent, e.mask) + masked(security, e.mask), data)[1]
     elif slip == "old length":
-        mac = protected(e, iv, masked(header, e.mask) + security, data)[1]
+        mac = protected(e, iv, covered(header, e.mask) + security, data)[1]
     elif slip == "mask not applied":
         mac = protected(e, iv, sent + security, data)[1]
     elif slip == "OCF covered":
@@ -253,7 +271,11 @@ def secured_frame(e, kind, frame, n, slip=None, field=False):
     elif slip == "data not covered":
         mac = protected(e, iv, before, b"")[1]
     elif slip == "security header not covered":
-        mac = protected(e, iv, masked(sent, e.mask), data)[1]
+        mac = protected(e, iv, covered(sent, e.mask), data)[1]
+    elif slip == "secondary header masked":
+        mac = protected(e, iv, masked(sent, e.mask) + security, data)[1]
+    elif slip == "secondary header not covered":
+        mac = protected(e, iv, covered(sent[:6], e.mask) + security, data)[1]
     elif slip == "another key":
         mac = protected(replace(e, key=e.key[::-1]), iv, before, data)[1]
     front = sent + security + out + mac + ocf
@@ -262,10 +284,10 @@ def secured_frame(e, kind, frame, n, slip=None, field=False):
 
 def opened(e, kind, frame, field=False):
     """The number in a secured frame, whether its MAC is right, and its clear data."""
-    h, end = HEADER[kind], len(frame) - trailer(kind, frame, field)
+    h, end = header_length(kind, frame), len(frame) - trailer(kind, frame, field)
     at = h + SECURITY[e.service]
     security, out, mac = frame[h:at], frame[at : end - 16], frame[end - 16 : end]
-    before = masked(frame[:h], e.mask) + security
+    before = covered(frame[:h], e.mask) + security
     # in GCM the text is the exclusive-or of the data and what the IV alone decides, so that protecting the text once more gives the data
     data = protected(e, security[2:], before, out)[0]
     return int.from_bytes(security[2:], "big"), protected(e, security[2:], before, data)[1] == mac, data
@@ -318,7 +340,7 @@ def checking(image, numbers, kind, field, frame, room):
         return 3
     if field and not is_closed(frame):
         return 12
-    h = HEADER[kind]
+    h = header_length(kind, frame)
     i = matching(entries, int.from_bytes(frame[h : h + 2], "big"), 2, kind, frame)
     if i is None:
         return 4
@@ -504,12 +526,12 @@ def cases_i_to_o(run):
 MASKS = {1: bytes.fromhex("1ff7fbfd7e00"), 2: bytes.fromhex("1ff7fbfd7ebf"), 3: bytes.fromhex("f03ffe5aa57f"), 4: bytes.fromhex("5aa5f03fc37e")}
 
 
-def random_frame(kind, has_ocf, size, rng):
-    """A clear frame of an association of `pair`, with any bits in what is not tested."""
+def random_frame(kind, has_ocf, size, rng, stamp=0):
+    """A clear frame of an association of `pair`, with any bits in what is not tested, and a stamp of so many octets."""
     data, ocf = rng.randbytes(size), rng.randbytes(4) if has_ocf else b""
     if kind == 3:
         counts = (rng.randrange(256), rng.randrange(256))
-        return tm(data, ocf, counts, rng.randrange(2**15), spacecraft=0x2B5, channel=6)
+        return tm(data, ocf, counts, rng.randrange(2**15), spacecraft=0x2B5, channel=6, stamp=rng.randbytes(stamp))
     if kind == 4:
         return aos(data, rng.randrange(2**24), rng.randrange(256), spacecraft=0xB5, channel=0x35)
     segment = (rng.randrange(4), 0x2D) if kind == 2 else None
@@ -524,31 +546,37 @@ def pair(kind, service, rng):
     return here, replace(here, direction=2)
 
 
-def slips_of(kind, has_ocf):
-    return [s for s in SLIPS if (s != "old length" or kind < 3) and (s != "OCF covered" or has_ocf)]
+def slips_of(kind, has_ocf, stamp):
+    left_out = {"old length"} if kind > 2 else set()
+    left_out |= set() if has_ocf else {"OCF covered"}
+    left_out |= set() if stamp else {"secondary header masked", "secondary header not covered"}
+    return [s for s in SLIPS if s not in left_out]
 
 
 def slips(run, rng):
-    for kind, has_ocf in ((1, False), (2, False), (3, False), (3, True), (4, False)):
+    shapes = [(1, False, 0), (2, False, 0), (3, False, 0), (3, True, 0), (4, False, 0)]
+    shapes += [(3, has_ocf, stamp) for stamp in (1, 63) for has_ocf in (False, True)]
+    for kind, has_ocf, stamp in shapes:
+        name = "kind %d%s%s" % (kind, " with OCF" if has_ocf else "", " and a stamp of %d" % stamp if stamp else "")
         for service in (1, 2):
             here, there = pair(kind, service, rng)
             last = rng.randrange(1000, 2**31)
-            run.case("kind %d%s, service %d: secured here, released there" % (kind, " with OCF" if has_ocf else "", service))
+            run.case("%s, service %d: secured here, released there" % (name, service))
             for size in (1, 15, 16, 17, 33, 200):
-                frame = random_frame(kind, has_ocf, size, rng)
+                frame = random_frame(kind, has_ocf, size, rng, stamp)
                 run.stand(here, last)
                 sent = run.secure(kind, here.spi, frame, 0)
                 run.stand(there, last)
-                for slip in slips_of(kind, has_ocf) if size in (1, 17) else ():
+                for slip in slips_of(kind, has_ocf, stamp) if size in (1, 17) else ():
                     wrong = secured_frame(here, kind, frame, last + 1, slip)
                     assert wrong != sent, slip
                     run.check(kind, wrong, 7)
                 released = run.check(kind, sent, 0)
-                assert released == frame[HEADER[kind] : HEADER[kind] + size]
+                assert released == frame[header_length(kind, frame) :][:size]
                 run.check(kind, sent, 8)
                 last += rng.randrange(1, 64)
             run.case("the same, with a bit changed in each octet; one that no MAC covers may change")
-            sent = secured_frame(here, kind, random_frame(kind, has_ocf, 17, rng), last + 1)
+            sent = secured_frame(here, kind, random_frame(kind, has_ocf, 17, rng, stamp), last + 1)
             run.stand(there, last)
             for i in range(len(sent)):
                 changed = bytearray(sent)
@@ -799,6 +827,21 @@ def with_field(kind, data, ocf=b"", **fields):
     return closed(tm(data, ocf, **fields) + bytes(2)) if kind == 3 else closed(clear(kind, data + bytes(2), **fields))
 
 
+def every_bit(run, kind, frame, sent):
+    """A clear frame and a secured one with right check fields, each with any one bit changed."""
+    run.case("the same with any one bit changed: 3 or 12, whatever the SPI and the output")
+    for at in range(8 * len(frame)):
+        changed = (int.from_bytes(frame, "big") ^ 1 << at).to_bytes(len(frame), "big")
+        answer = securing(run.octets, run.numbers, kind, True, 8, changed, 0)
+        assert answer in (3, 12)
+        run.secure(kind, 8, changed, answer, room=0, field=True)
+    for at in range(8 * len(sent)):
+        changed = (int.from_bytes(sent, "big") ^ 1 << at).to_bytes(len(sent), "big")
+        answer = checking(run.octets, run.numbers, kind, True, changed, 0)
+        assert answer in (3, 12)
+        run.check(kind, changed, answer, room=0, field=True)
+
+
 def check_fields(run):
     """Document 02, request 4."""
     assert check_field(b"123456789") == bytes.fromhex("29b1")
@@ -820,17 +863,7 @@ def check_fields(run):
             run.fresh(replace(here, direction=2))
             assert run.check(kind, sent, 0, field=True) == b"data"
             run.check(kind, sent, 8, field=True)
-            run.case("the same with any one bit changed: 3 or 12, whatever the SPI and the output")
-            for at in range(8 * len(frame)):
-                changed = (int.from_bytes(frame, "big") ^ 1 << at).to_bytes(len(frame), "big")
-                answer = securing(run.octets, run.numbers, kind, True, 8, changed, 0)
-                assert answer in (3, 12)
-                run.secure(kind, 8, changed, answer, room=0, field=True)
-            for at in range(8 * len(sent)):
-                changed = (int.from_bytes(sent, "big") ^ 1 << at).to_bytes(len(sent), "big")
-                answer = checking(run.octets, run.numbers, kind, True, changed, 0)
-                assert answer in (3, 12)
-                run.check(kind, changed, answer, room=0, field=True)
+            every_bit(run, kind, frame, sent)
     run.case("AOS: a check field gives 3, right or wrong")
     run.fresh(CAMERAS)
     for frame in (aos(b"data" + bytes(2)), closed(aos(b"data" + bytes(2)))):
@@ -877,7 +910,7 @@ def frame_refusals(run):
         wrong = [clear(kind, b"", ocf), good[:h], good[:3], b""]
         wrong += [clear(kind, data, ocf, version=v) for v in ((0, 2, 3) if kind == 4 else (1, 2))]
         if kind == 3:
-            wrong += [tm(bytes(2049 - h - f), ocf), tm(data, ocf, status=2**15)]
+            wrong += [tm(bytes(2049 - h - f), ocf), tm(bytes([0]) + data, ocf, status=2**15)]
         elif kind == 4:
             wrong += [aos(bytes(2049 - h))]
         else:
@@ -901,6 +934,85 @@ def frame_refusals(run):
             run.check(kind, clear(kind, b"\x00\x09" + bytes(size - h - 2 - f), ocf), 5, room=0)
         run.check(kind, clear(kind, b"\x00\x09" + bytes(shortest - h - 2 - f), ocf), 7)
         run.check(kind, secured_frame(here, kind, clear(kind, b"d", ocf), 64), 0, room=1)
+
+
+def secondary_headers(run):
+    """TM with a secondary header: every length of it, at the least of data; and what is none, a bad one, or leaves no room."""
+    here = replace(TELEMETRY, service=2, mask=MASKS[3])
+    run.case("secondary headers of 2 to 64 octets: secured here, released there without them")
+    for n in range(1, 64):
+        frame = tm(b"data", b"ocf." if n % 2 else b"", stamp=bytes(range(n)))
+        run.fresh(replace(here, service=1 + n % 2))
+        sent = run.secure(3, 9, frame, 0)
+        assert sent[: 7 + n] == frame[: 7 + n]
+        run.fresh(replace(here, service=1 + n % 2, direction=2))
+        run.check(3, sent, 6, room=3)
+        assert run.check(3, sent, 0, room=4) == b"data"
+    run.case("3: no octet behind the primary header, a version that is not 0, a length field of 0, no room for what must follow")
+    flagged = tm(b"", status=2**15)
+    wrong = [flagged] + [flagged + bytes([first]) + bytes(200) for first in (0, 0x41, 0x80, 0xC1, 0xFF)]
+    for ocf in (b"", b"ocf."):
+        wrong += [tm(b"", ocf, stamp=bytes(n))[:cut] for n in (1, 2, 62, 63) for cut in (7, 8, 6 + n, 7 + n, 7 + n + len(ocf))]
+    for e in (here, replace(here, direction=2)):
+        run.fresh(e)
+        for frame in wrong:
+            if e.direction == 1:
+                run.secure(3, 9, frame, 3)
+            else:
+                run.check(3, frame, 3)
+    run.case("the flag cleared on the way, where the stamp holds the SPI 4386 and the number 65: 7 if the mask covers the flag, and under service 2")
+    frame = tm(b"data", stamp=bytes([0x22, 0, 0, 0, 65]) + bytes(12))
+    for service, mask, answer in ((1, b"\xff" * 6, 7), (2, b"\xff" * 6, 7), (2, b"\xff" * 4 + bytes(2), 7), (1, b"\xff" * 4 + bytes(2), 0)):
+        e = replace(here, spi=0x1122, service=service, mask=mask)
+        changed = bytearray(secured_frame(e, 3, frame, 64))
+        changed[4] -= 0x80
+        run.fresh(replace(e, direction=2))
+        run.check(3, bytes(changed), answer)
+    for ocf in (b"", b"ocf."):
+        for n in (1, 63):
+            run.case("a stamp of %d%s: 3, 5, 6 and 11 at their limits" % (n, ", with OCF" if ocf else ""))
+            run.fresh(here)
+            run.secure(3, 9, tm(b"d", ocf, stamp=bytes(n)), 6, room=8 + n + len(ocf) + 29)
+            run.secure(3, 9, tm(b"d", ocf, stamp=bytes(n)), 0, room=8 + n + len(ocf) + 30)
+            most = 2048 - 30 - 7 - n - len(ocf)
+            run.secure(3, 9, tm(bytes(most + 1), ocf, stamp=bytes(n)), 11)
+            sent = run.secure(3, 9, tm(bytes(most), ocf, stamp=bytes(n)), 0)
+            assert len(sent) == 2048
+            run.fresh(replace(here, direction=2))
+            run.check(3, tm(b"\x00", ocf, stamp=bytes(n)), 3)
+            for size in (2, 30):
+                run.check(3, tm(b"\x00\x09" + bytes(size - 2), ocf, stamp=bytes(n)), 5)
+            run.check(3, tm(b"\x00\x09" + bytes(29), ocf, stamp=bytes(n)), 7)
+            run.check(3, sent, 0, room=most)
+
+
+def stamped_check_fields(run):
+    """The shortest and the longest secondary header, and a check field: the limits follow both, and a bit that moves the header is seen."""
+    for n, ocf, service in ((n, ocf, service) for n in (1, 63) for ocf in (b"", b"ocf.") for service in (1, 2)):
+        here = replace(TELEMETRY, service=service, mask=MASKS[3])
+        run.case("a stamp of %d%s, service %d: a check field at both ends" % (n, ", with OCF" if ocf else "", service))
+        frame = with_field(3, b"data", ocf, stamp=bytes(range(n)))
+        run.fresh(here)
+        sent = run.secure(3, 9, frame, 0, field=True)
+        assert is_closed(sent) and sent[: 7 + n] == frame[: 7 + n] and len(sent) == len(frame) + SECURITY[service] + 16
+        run.secure(3, 9, with_field(3, b"", ocf, stamp=bytes(n)), 3, field=True)
+        most = 2048 - 2 - 16 - SECURITY[service] - 7 - n - len(ocf)
+        run.secure(3, 9, with_field(3, bytes(most + 1), ocf, stamp=bytes(n)), 11, field=True)
+        assert len(run.secure(3, 9, with_field(3, bytes(most), ocf, stamp=bytes(n)), 0, field=True)) == 2048
+        run.fresh(replace(here, direction=2))
+        run.check(3, with_field(3, b"\x00", ocf, stamp=bytes(n)), 3, field=True)
+        run.check(3, with_field(3, b"\x00\x09" + bytes(SECURITY[service] + 14), ocf, stamp=bytes(n)), 5, field=True)
+        run.check(3, with_field(3, b"\x00\x09" + bytes(SECURITY[service] + 15), ocf, stamp=bytes(n)), 7, field=True)
+        run.check(3, sent, 6, room=3, field=True)
+        assert run.check(3, sent, 0, room=4, field=True) == b"data"
+        if n == 1 or (ocf and service == 1):
+            every_bit(run, 3, frame, sent)
+    run.case("a TM frame without a secondary header whose flag is set on the way, before data that could be one: 12, and 3 before data that could not")
+    for data, answer in ((b"\x01data", 12), (b"\x00data", 3), (b"\x41data", 3), (b"\x04data", 3)):
+        flagged = bytearray(with_field(3, data))
+        flagged[4] += 0x80
+        run.fresh(TELEMETRY)
+        run.secure(3, 9, bytes(flagged), answer, field=True)
 
 
 def entry_refusals(run):
@@ -996,6 +1108,8 @@ def main():
     aos_fields(run)
     channel_sets(run)
     check_fields(run)
+    secondary_headers(run)
+    stamped_check_fields(run)
     entry_refusals(run)
     identifier_bits(run)
     orders(run)

@@ -24,12 +24,13 @@ void sequence_of_number(uint64_t number, uint8_t sequence[SEQUENCE_LENGTH])
     }
 }
 
-/* 'The MAC covers the header (each octet ANDed with the mask), the security header and the data': what stands before the data. */
+/* 'The MAC covers the header (each octet ANDed with the mask), the security header and the data': what stands before the data. A secondary
+ * header 'is covered by the MAC with an all-ones mask'. */
 static size_t covered_head(const struct association *association, const struct header *header, const uint8_t *secured, uint8_t *head)
 {
     size_t security_header = security_header_length(association->service);
     for (size_t i = 0; i < header->length; i++) {
-        head[i] = secured[i] & association->mask[i];
+        head[i] = secured[i] & (i < MASK_LENGTH ? association->mask[i] : 0xFF);
     }
     memcpy(head + header->length, secured + header->length, security_header);
     return header->length + security_header;

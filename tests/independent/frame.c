@@ -1,4 +1,4 @@
-/* Document 01, 'Frames', and document 02, requests 1 and 4: the three headers, bit after bit, and the rules of answer 3. */
+/* Document 01, 'Frames', and document 02, requests 1, 4 and 6: the three headers, bit after bit, and the rules of answer 3. */
 #include "reading.h"
 
 /* 'the first bit is the most significant' */
@@ -40,9 +40,21 @@ static bool read_tc_header(bool has_segment_header, const uint8_t *frame, size_t
     return version == 0 && control == 0 && spare == 0 && length_field == length - 1;
 }
 
-/* 'version 2 (0), spacecraft 10, virtual channel 3, OCF flag 1, two counts of 8, data field status 16, whose first bit (secondary header)
- * is 0' */
-static bool read_tm_header(const uint8_t *frame, struct header *header)
+/* Document 02, request 6: 'the first octet after the primary header then has version 2 bits 0 and 6 bits holding the header's length less
+ * one, 1 to 63. It lies between primary and security header', so it is counted in h. */
+static bool read_secondary_header(struct bits *bits, size_t length, struct header *header)
+{
+    if (bits->next / 8 == length) {
+        return false;
+    }
+    unsigned version = take(bits, 2);
+    unsigned less_one = take(bits, 6);
+    header->length += less_one + 1;
+    return version == 0 && less_one >= 1;
+}
+
+/* 'version 2 (0), spacecraft 10, virtual channel 3, OCF flag 1, two counts of 8, data field status 16, whose first bit' is the header flag */
+static bool read_tm_header(const uint8_t *frame, size_t length, struct header *header)
 {
     struct bits bits = {frame, 0};
     unsigned version = take(&bits, 2);
@@ -51,10 +63,11 @@ static bool read_tm_header(const uint8_t *frame, struct header *header)
     unsigned ocf_flag = take(&bits, 1);
     take(&bits, 8); /* the two counts */
     take(&bits, 8);
-    unsigned secondary_header = take(&bits, 1);
+    unsigned header_flag = take(&bits, 1);
+    take(&bits, 15); /* the rest of the status */
     header->map = 0;
     header->trailer = ocf_flag == 1 ? 4 : 0;
-    return version == 0 && secondary_header == 0;
+    return version == 0 && (header_flag == 0 || read_secondary_header(&bits, length, header));
 }
 
 /* Document 02, request 1: 'version bits 01, spacecraft 8 bits, channel 6, frame count 24, signalling 8, the last two free', 'no OCF' */
@@ -73,7 +86,7 @@ static bool read_fields(unsigned kind, const uint8_t *frame, size_t length, stru
 {
     switch (kind) {
     case 3:
-        return read_tm_header(frame, header);
+        return read_tm_header(frame, length, header);
     case 4:
         return read_aos_header(frame, header);
     default:

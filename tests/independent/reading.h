@@ -70,7 +70,7 @@ struct store store_of_raise(size_t count, size_t entry, uint32_t mark);
 
 /* 'Frames': what a header says, once it obeys its kind. */
 struct header {
-    size_t length;   /* h */
+    size_t length;   /* h, a secondary header counted in */
     size_t trailer;  /* f: OCF and check field */
     bool has_field;  /* document 02, request 4: it ends in a check field, as the caller says */
     size_t largest;

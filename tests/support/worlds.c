@@ -197,13 +197,19 @@ static size_t make_tc_header(struct random *random, const struct association *as
     return 5;
 }
 
+/* Half of the frames have a secondary header, of any length, the shortest and the longest more often. */
 static size_t make_tm_header(struct random *random, const struct association *association, bool has_ocf, uint8_t *frame)
 {
-    random_octets(random, frame, 6);
+    random_octets(random, frame, 6 + 64);
     frame[0] = (uint8_t)(association->spacecraft >> 4);
     frame[1] = (uint8_t)((association->spacecraft << 4) | (any_channel(random, association) << 1) | (has_ocf ? 1u : 0u));
-    frame[4] &= 0x7F;
-    return 6;
+    if (random_percent(random, 50)) {
+        frame[4] &= 0x7F;
+        return 6;
+    }
+    frame[4] |= 0x80;
+    frame[6] = (uint8_t)(random_percent(random, 30) ? RANDOM_OF(random, 1, 63) : random_between(random, 1, 63));
+    return 6 + frame[6] + 1u;
 }
 
 static size_t make_aos_header(struct random *random, const struct association *association, uint8_t *frame)
@@ -230,6 +236,9 @@ size_t make_clear_frame(struct random *random, const struct association *associa
 {
     bool has_ocf = association->kind == 3 && random_percent(random, 50);
     size_t header = make_header(random, association, has_ocf, frame);
+    if (data_length > 256 && header > 6) {
+        data_length -= header - 6; /* a long frame stays as long as it would be without a secondary header */
+    }
     size_t length = header + data_length + (has_ocf ? 4 : 0) + (has_field ? CHECK_FIELD_LENGTH : 0);
     random_octets(random, frame + header, length - header);
     if (has_length_field(association->kind)) {

@@ -32,7 +32,7 @@ void set_number(struct end *end, size_t entry, uint32_t number);
 void change_others(struct random *random, struct input *input, size_t kept);
 
 /* A clear frame that matches the association, of any of its channels, with this many octets of data, and its length; a check field at its end
- * if it is to have one, which is then right. */
+ * if it is to have one, which is then right. Where a secondary header takes room in a long frame, there are fewer octets of data. */
 size_t make_clear_frame(struct random *random, const struct association *association, bool has_field, size_t data_length, uint8_t *frame);
 
 /* A number of data octets from 1, such that most secured frames are small and some are around the largest. */

@@ -1,4 +1,5 @@
--- Document 01, 'Frames': the header as the MAC covers it, each octet ANDed with the mask. A security header is never given to the mask.
+-- Document 01, 'Frames', and document 02, request 6: the header as the MAC covers it, each octet ANDed with the mask. The mask has six octets:
+-- a secondary header lies behind them, and stays as it is, as under octets of ones. A security header is never given to the mask.
 -- Assumes nothing.
 use Prim.Native.Nat.{ℕ}
 use mathlib.Core.Bool.{cond}

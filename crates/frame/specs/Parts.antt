@@ -1,6 +1,8 @@
 -- Document 01, 'Frames' and 'What comes back', answers 5 and 11: where the parts of a clear and of a secured frame lie. A clear frame is
--- header, data and trailer; a secured one is header, security header of s octets, data, MAC of 16 and trailer. The trailer is the
--- operational control field and the check field, if any. Of a frame too short for its parts the places are only numbers, cut at 0.
+-- header, data and trailer; a secured one is header, security header of s octets, data, MAC of 16 and trailer. The header is the primary
+-- one with the secondary header, if any; the trailer is the operational control field and the check field, if any. Header and control field
+-- are as long as the frame itself says, and a secured frame has the header of the clear one, in which no octet differs that says so. Of a
+-- frame too short for its parts the places are only numbers, cut at 0.
 -- Assumes nothing.
 use Prim.Native.Nat.{ℕ, _+_, _-_}
 use mathlib.Core.Bool.{Bool}

@@ -11,7 +11,7 @@ use lines::read_octets;
 use octets::put_behind;
 use octets::two_at;
 
-// A line is 21 octets in hexadecimal. The first seven: kind, 1 if secured and else 0, 1 if it is said to end in a check field and else 0,
+// A line is 22 octets in hexadecimal. The first seven: kind, 1 if secured and else 0, 1 if it is said to end in a check field and else 0,
 // length of the security header, octets of the mask that are used, length of the frame in two octets.
 fn case_of(line: &[u8]) -> Case {
     let mut octets = [0u8; 7];
@@ -33,19 +33,19 @@ fn put_last(last: &[u8; 2], n: usize, whole: &mut [u8]) {
     }
 }
 
-// Whether there was a line. Its other octets are the first six of the frame and its last two, whose others are 0, and six of mask. The room
-// is for the longest frame of the cases.
+// Whether there was a line. Its other octets are the first seven of the frame and its last two, whose others are 0, and six of mask. The
+// room is for the longest frame of the cases.
 fn run_line() -> bool {
-    let mut line = [0u8; 43];
-    if read_line(STDIN_FILENO, &mut line) < 43 {
+    let mut line = [0u8; 45];
+    if read_line(STDIN_FILENO, &mut line) < 45 {
         return false;
     }
     let mut whole = [0u8; 4096];
     let mut last = [0u8; 2];
     let mut mask = [0u8; 6];
-    read_octets(&line[14..26], &mut whole);
-    read_octets(&line[26..30], &mut last);
-    read_octets(&line[30..42], &mut mask);
+    read_octets(&line[14..28], &mut whole);
+    read_octets(&line[28..32], &mut last);
+    read_octets(&line[32..44], &mut mask);
     let case = case_of(&line);
     put_last(&last, case.length, &mut whole);
     print_answers(case, &mask, &mut whole);

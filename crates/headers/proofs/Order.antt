@@ -10,6 +10,7 @@ use Rattle.octets.specs.Numbers.{number}
 use Rattle.headers.specs.Fields.{tcVersion, tcBypass, tcControl, tcSpare, tcSpacecraft, tcChannel, tcLength, tcSequence}
 use Rattle.headers.specs.Fields.{segmentFlags, segmentMap}
 use Rattle.headers.specs.Fields.{tmVersion, tmSpacecraft, tmChannel, tmOcfFlag, tmMasterCount, tmChannelCount, tmStatus, tmSecondary}
+use Rattle.headers.specs.Fields.{secondaryVersion, secondaryLength}
 use Rattle.headers.specs.Fields.{aosVersion, aosSpacecraft, aosChannel, aosCount, aosSignalling}
 
 -- a field of a width behind a number
@@ -56,6 +57,13 @@ module _ (frame : List ℕ) (o : Octets frame) where
   -- the secondary header flag is the first bit of the data field status
   pub secondary-first : tmSecondary frame ≡ tmStatus frame / 32768
   secondary-first = omega (arith, o 5)
+
+  -- widths 2, 6
+  pub secondary-order : octet frame 6 ≡ then (secondaryVersion frame) 64 (secondaryLength frame)
+  secondary-order = omega arith
+
+  pub secondary-widths : (secondaryVersion frame < 4) × (secondaryLength frame < 64)
+  secondary-widths = (omega (arith, o 6), omega arith)
 
   -- widths 2, 8, 6; 24, 8
   pub aos-order : number 6 frame

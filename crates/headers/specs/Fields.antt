@@ -1,5 +1,5 @@
--- Document 01, 'Frames', and document 02, request 1: the fields of the headers of CCSDS 232.0 (TC), CCSDS 132.0 (TM) and CCSDS 732.0 (AOS),
--- each under its name, from the frame's octets.
+-- Document 01, 'Frames', and document 02, requests 1 and 6: the fields of the headers of CCSDS 232.0 (TC), CCSDS 132.0 (TM) and CCSDS 732.0
+-- (AOS), each under its name, from the frame's octets.
 -- The first bit of an octet is its most significant, and an octet past the frame's end reads as 0.
 -- Assumes nothing.
 use Prim.Native.Nat.{ℕ, _+_, _*_, _/_, _%_}
@@ -70,6 +70,14 @@ tmStatus frame = octet frame 4 * 256 + octet frame 5
 -- the first bit of the data field status
 abbrev pub tmSecondary : List ℕ → ℕ
 tmSecondary frame = octet frame 4 / 128
+
+-- ---- the secondary header of TM, octet 6: version 2 bits, length 6
+
+abbrev pub secondaryVersion : List ℕ → ℕ
+secondaryVersion frame = octet frame 6 / 64
+
+abbrev pub secondaryLength : List ℕ → ℕ
+secondaryLength frame = octet frame 6 % 64
 
 -- ---- AOS, octets 0 and 1: version 2 bits, spacecraft 8, virtual channel 6
 

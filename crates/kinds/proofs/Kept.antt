@@ -12,8 +12,9 @@ use lib.Dec.{eqb, ltb}
 use lib.ListN.{length, take, set, length-set, List·getD-append}
 use lib.Seq.{getD-set-same, getD-set-other, getD-take, length-take-le}
 use Rattle.octets.specs.Lists.{octet}
-use Rattle.headers.specs.Fields.{tcSpacecraft, tcChannel, segmentMap}
+use Rattle.headers.specs.Fields.{tcSpacecraft, tcChannel, segmentMap, tmSecondary, secondaryLength}
 use Rattle.headers.specs.Telecommand.{tcRules, tcLengthOk, tcWithLength}
+use Rattle.headers.specs.Telemetry.{tmPrimary, secondaryRules, tmHeader}
 use Rattle.kinds.specs.Kinds.{Kind, telecommand, tc, segmentedTc, tm, aos, noKind, kindIs, kindBehind, kindOf, named}
 use Rattle.kinds.specs.Kinds.{checkFieldLength, withCheckField, framed}
 use Rattle.kinds.specs.declared.framing.Framing.{Framing}
@@ -159,26 +160,51 @@ module _ (h : ℕ) (frame rest : List ℕ) (fits : h ≤ length frame) where
       let c = length-take-le h frame fits in
       List·getD-append (take h frame) rest 0 j (omega arith) ∙ getD-take h frame j 0 l
 
+-- what is read of the flag and of the octet behind the primary header, and not of that octet where the flag is 0, is read alike
+module _ (frame rest : List ℕ) (fits : tmHeader frame ≤ length frame) where
+  abbrev copy : List ℕ
+  copy = take (tmHeader frame) frame ++ rest
+
+  sixth : eqb (tmSecondary frame) 0 ≡ false → octet copy 6 ≡ octet frame 6
+  sixth e =
+      let long : tmHeader frame ≡ tmPrimary + (secondaryLength frame + 1) = rw e in
+      copied-octet (tmHeader frame) frame rest fits 6 (omega arith)
+
+  by-flag : {A : Type 0} (read : Bool → ℕ → A) → ((x y : ℕ) → read true x ≡ read true y)
+      → read (eqb (tmSecondary copy) 0) (octet copy 6) ≡ read (eqb (tmSecondary frame) 0) (octet frame 6)
+  by-flag read unread =
+      ap (λ (x : ℕ). read (eqb (x / 128) 0) (octet copy 6)) (copied-octet (tmHeader frame) frame rest fits 4 (omega arith))
+      ∙ by-test (eqb (tmSecondary frame) 0) refl
+    where
+      by-test : (none : Bool) → eqb (tmSecondary frame) 0 ≡ none → read none (octet copy 6) ≡ read none (octet frame 6)
+      by-test true e = unread (octet copy 6) (octet frame 6)
+      by-test false e = ap (read false) (sixth e)
+
+  tm-header : tmHeader copy ≡ tmHeader frame
+  tm-header = by-flag (λ none x. tmPrimary + cond none 0 (x % 64 + 1)) (λ x y. refl)
+
+  secondary-kept : (eqb (tmSecondary copy) 0 || secondaryRules copy) ≡ (eqb (tmSecondary frame) 0 || secondaryRules frame)
+  secondary-kept = by-flag (λ none x. none || (eqb (x / 64) 0 && ltb 0 (x % 64))) (λ x y. refl)
+
 tm-lawful : Lawful tm
 tm-lawful =
     record {
       long = λ n s. refl;
       other = λ n s j p q. refl;
       counted = λ frame. omega arith;
-      sameHeader = λ n frame rest fits. refl;
+      sameHeader = λ n frame rest fits. tm-header frame rest fits;
       keeps = go;
     }
   where
-    go : (n : ℕ) (frame rest : List ℕ) → tm .rules frame ≡ true → 6 ≤ length frame
+    go : (n : ℕ) (frame rest : List ℕ) → tm .rules frame ≡ true → tmHeader frame ≤ length frame
         → length (built tm n frame rest) ≡ n → 0 < n → n ≤ 2048 → Kept tm frame (built tm n frame rest)
     go n frame rest ok fits count some small =
-        let e0 = copied-octet 6 frame rest fits 0 (omega arith) in
-        let e1 = copied-octet 6 frame rest fits 1 (omega arith) in
-        let e4 = copied-octet 6 frame rest fits 4 (omega arith) in
+        let e0 = copied-octet (tmHeader frame) frame rest fits 0 (omega arith) in
+        let e1 = copied-octet (tmHeader frame) frame rest fits 1 (omega arith) in
         record {
-          rules = ap₂ (λ (x y : ℕ). eqb (x / 64) 0 && eqb (y / 128) 0) e0 e4 ∙ ok;
+          rules = ap₂ (λ (x : ℕ) (b : Bool). eqb (x / 64) 0 && b) e0 (secondary-kept frame rest fits) ∙ ok;
           lengthOk = refl;
-          header = refl;
+          header = tm-header frame rest fits;
           trailer = ap (λ (x : ℕ). 4 * (x % 2)) e1;
           spacecraft = ap₂ (λ (x y : ℕ). x % 64 * 16 + y / 16) e0 e1;
           channel = ap (λ (x : ℕ). x / 2 % 8) e1;

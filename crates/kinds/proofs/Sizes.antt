@@ -1,19 +1,26 @@
 -- Header and trailer of every kind are short, so that no sum of lengths wraps.
 -- Assumes nothing.
-use Prim.Native.Nat.{ℕ, _+_, _≤_, _<_}
-use mathlib.Core.Bool.{Bool, true, false}
+use Prim.Native.Nat.{ℕ, _+_, _%_, _≤_, _<_}
+use mathlib.Core.Bool.{Bool, true, false, cond}
 use mathlib.Core.List.{List}
 use native.Mathlib.Omega.{arith}
-use Rattle.kinds.specs.Kinds.{kindIs, checkFieldLength, framed}
+use lib.Dec.{eqb}
+use Rattle.octets.specs.Lists.{octet}
+use Rattle.headers.specs.Fields.{tmSecondary}
+use Rattle.headers.specs.Telemetry.{mostSecondary}
+use Rattle.kinds.specs.Kinds.{mostHeader, kindIs, checkFieldLength, framed}
 use Rattle.kinds.specs.declared.framing.Framing.{Framing}
 use Rattle.kinds.specs.declared.kinds.Kind.{Kind}
 use Rattle.kinds.specs.declared.kinds.Kind.the-variants as kind
 
--- the longest header has six octets
-pub header-most : (k : Kind) (frame : List ℕ) → kindIs k .header frame ≤ 6
+secondary-most : (none : Bool) (n : ℕ) → cond none 0 (n % 64 + 1) ≤ mostSecondary
+secondary-most true n = omega arith
+secondary-most false n = omega arith
+
+pub header-most : (k : Kind) (frame : List ℕ) → kindIs k .header frame ≤ mostHeader
 header-most kind.Tc frame = omega arith
 header-most kind.SegmentedTc frame = omega arith
-header-most kind.Tm frame = omega arith
+header-most kind.Tm frame = omega (arith, secondary-most (eqb (tmSecondary frame) 0) (octet frame 6))
 header-most kind.Aos frame = omega arith
 
 pub header-short : (k : Kind) (frame : List ℕ) → kindIs k .header frame < 256

@@ -1,4 +1,4 @@
--- Document 01, 'Frames' and 'The image', and document 02, requests 1 and 4: the frame kinds. Everything that the papers say of one kind
+-- Document 01, 'Frames' and 'The image', and document 02, requests 1, 4 and 6: the frame kinds. Everything that the papers say of one kind
 -- stands in its record, and nothing else names a kind's numbers.
 -- Assumes nothing.
 use Prim.Native.Nat.{ℕ, _+_}
@@ -8,7 +8,7 @@ use lib.Dec.{eqb, ltb}
 use Rattle.headers.specs.Aos.{aosRules}
 use Rattle.headers.specs.Fields.{tcSpacecraft, tcChannel, segmentMap, tmSpacecraft, tmChannel, aosSpacecraft, aosChannel}
 use Rattle.headers.specs.Telecommand.{tcRules, tcLengthOk, tcHoldsLength, tcWithLength}
-use Rattle.headers.specs.Telemetry.{tmRules, tmTrailer}
+use Rattle.headers.specs.Telemetry.{tmPrimary, mostSecondary, tmRules, tmHeader, tmTrailer}
 use Rattle.kinds.specs.declared.framing.Framing.{Framing}
 use Rattle.kinds.specs.declared.kinds.Kind as code
 use Rattle.kinds.specs.declared.kinds.Kind.the-variants as kind
@@ -20,7 +20,7 @@ use Rattle.kinds.specs.declared.kinds.Rewritten.the-variants as rewritin
 pub record Kind : Type 0 where
   -- the rules on the bits of the header
   pub rules : List ℕ → Bool
-  -- h, the octets of the header; f, those behind the MAC; and the most octets that a frame may have
+  -- h, the octets of the header, with the secondary header if there is one; f, those behind the MAC; and the most octets that a frame may have
   pub header : List ℕ → ℕ
   pub trailer : List ℕ → ℕ
   pub largest : ℕ
@@ -72,18 +72,19 @@ tc = telecommand 5 (λ frame. 0) 0
 abbrev pub segmentedTc : Kind
 segmentedTc = telecommand 6 segmentMap 63
 
--- ---- TM: there is no length field
+-- ---- TM: there is no length field, and a secondary header may stand behind the primary one. Securing copies both, and they say themselves
+-- how long they are; so a secured frame shows the h of the clear one, and both ends read the same
 
 abbrev pub tm : Kind
 tm =
     record {
       rules = tmRules;
-      header = λ frame. 6;
+      header = tmHeader;
       trailer = tmTrailer;
       largest = 2048;
       mayEndInField = true;
       endsInField = false;
-      underMask = 6;
+      underMask = tmPrimary;
       lengthOk = λ frame. true;
       holdsLength = λ s. false;
       withLength = λ n s. s;
@@ -140,6 +141,10 @@ noKind =
       mostChannel = 0;
       mostMap = 0;
     }
+
+-- no kind has a longer header than TM with the longest secondary header
+abbrev pub mostHeader : ℕ
+mostHeader = tmPrimary + mostSecondary
 
 -- whether frames of a kind have a MAP: the image may then ask for another than 0
 abbrev pub hasMap : Kind → Bool

@@ -1,4 +1,5 @@
-// Document 01, 'Frames' and 'The image', and document 02, request 1: one enum of kinds, which answers for whichever kind the caller named.
+// Document 01, 'Frames' and 'The image', and document 02, requests 1 and 6: one enum of kinds, which answers for whichever kind the caller
+// named.
 use headers::Aos;
 use headers::Segment;
 use headers::Tc;
@@ -6,12 +7,12 @@ use headers::Tm;
 ghost use mathlib.Core.Path.{_≡_};
 ghost use Rattle.kinds.specs.Kinds.{kindIs, named, rewritten};
 
-// The octets of each header; a segment header is one more.
+// The octets of each header; a segment header is one more, and a secondary header is not counted here.
 const TC_HEADER: usize = 5;
 
 const SEGMENTED_HEADER: usize = TC_HEADER + 1;
 
-const TM_HEADER: usize = 6;
+const TM_PRIMARY: usize = 6;
 
 const AOS_HEADER: usize = 6;
 
@@ -67,7 +68,7 @@ impl Kind {
         match self {
             Kind::Tc => TC_HEADER,
             Kind::SegmentedTc => SEGMENTED_HEADER,
-            Kind::Tm => TM_HEADER,
+            Kind::Tm => Tm::header_length(frame),
             Kind::Aos => AOS_HEADER,
         }
     }
@@ -91,7 +92,7 @@ impl Kind {
         match self {
             Kind::Tc => TC_HEADER,
             Kind::SegmentedTc => SEGMENTED_HEADER,
-            Kind::Tm => TM_HEADER,
+            Kind::Tm => TM_PRIMARY,
             Kind::Aos => AOS_HEADER,
         }
     }

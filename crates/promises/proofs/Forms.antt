@@ -2,24 +2,28 @@
 -- Assumes nothing.
 use Prim.Native.Nat.{ℕ, _+_, _-_, _*_, _/_, _%_, _≤_, _<_}
 use mathlib.Core.Path.{_≡_, refl, ap, ap₂, _∙_}
-use mathlib.Core.Bool.{Bool, true, false, cond, _&&_}
+use mathlib.Core.Logic.{_⊎_, inl, inr}
+use mathlib.Core.Bool.{Bool, true, false, cond, _&&_, _||_, or-true}
 use mathlib.Core.List.{List}
-use native.Mathlib.Decide.{ℕ-discrete}
+use native.Mathlib.Decide.{ℕ-discrete, decLt}
 use native.Mathlib.Omega.{arith}
-use borrow.Author.Tests.{eqb-true, eq-eqb, ne-eqb, lt-ltb}
-use lib.Dec.{eqb}
+use borrow.Author.Tests.{eqb-true, eq-eqb, ne-eqb, ltb-true, lt-ltb, le-ltb}
+use lib.Bits.{bitAnd}
+use lib.Dec.{eqb, ltb}
 use lib.ListN.{length, take, set, length-set}
 use lib.Seq.{getD-set-same, getD-set-other, getD-take, length-take-le, ext-getD}
 use Rattle.octets.specs.Lists.{octet}
 use Rattle.octets.proofs.Alls.{and-left, and-right}
 use Rattle.octets.proofs.Rules.{length-tab, octet-tab}
+use Rattle.headers.specs.Fields.{tmSecondary}
 use Rattle.headers.specs.Telecommand.{tcRules, tcLengthOk, tcWithLength}
+use Rattle.headers.specs.Telemetry.{secondaryRules, tmHeader}
 use Rattle.kinds.specs.Kinds.{Kind, telecommand, tm, aos, noKind, kindBehind, kindOf, named}
 use Rattle.frame.specs.Masked.{masked}
 use Rattle.kinds.specs.declared.kinds.Kind.the-variants as kind
 use Rattle.kinds.specs.declared.kinds.Named.the-variants as answer
-use Rattle.frame.proofs.Masking.{octet-reached, length-masked}
-use Rattle.promises.specs.Forms.{Form, TcHeader, tcSecuredOctet, tcForm}
+use Rattle.frame.proofs.Masking.{octet-reached, octet-beyond, length-masked}
+use Rattle.promises.specs.Forms.{Form, TcHeader, tcSecuredOctet, tcForm, SecondaryHeader}
 use Rattle.promises.specs.Forms.{plainTcForm, segmentedTcForm, tmForm, aosForm, noForm, formOf, underMask}
 
 pub record Describes (f : Form) (k : Kind) : Type 0 where
@@ -39,8 +43,6 @@ pub record Describes (f : Form) (k : Kind) : Type 0 where
   pub mostSpacecraft : f .mostSpacecraft ≡ k .mostSpacecraft
   pub mostChannel : f .mostChannel ≡ k .mostChannel
   pub mostMap : f .mostMap ≡ k .mostMap
-  -- the mask of six octets reaches over the header
-  pub short : (frame : List ℕ) → k .header frame ≤ 6
 
 -- ---- TC, over the header's length
 
@@ -96,8 +98,8 @@ module _ (h n : ℕ) (clear : List ℕ) (five : 5 ≤ h) (small : n ≤ 1024) (f
           rw (ne-eqb j 2 p, ne-eqb j 3 q)
           (getD-set-other (set head 2 two) 3 j three 0 q ∙ getD-set-other head 2 j two 0 p ∙ getD-take h clear j 0 below)
 
-tc-describes : (h most : ℕ) (map : List ℕ → ℕ) → 5 ≤ h → h ≤ 6 → Describes (tcForm h map most) (telecommand h map most)
-tc-describes h most map five six =
+tc-describes : (h most : ℕ) (map : List ℕ → ℕ) → 5 ≤ h → Describes (tcForm h map most) (telecommand h map most)
+tc-describes h most map five =
     record {
       tested = tc-tested;
       kept = tc-kept;
@@ -112,33 +114,49 @@ tc-describes h most map five six =
       mostSpacecraft = refl;
       mostChannel = refl;
       mostMap = refl;
-      short = λ frame. six;
     }
 
--- ---- TM, AOS, and no kind
+-- ---- TM, with a secondary header or without
+
+secondary-tested : (frame : List ℕ) → (octet frame 4 / 128 ≡ 0) ⊎ SecondaryHeader frame
+    → (eqb (tmSecondary frame) 0 || secondaryRules frame) ≡ true
+secondary-tested frame (inl none) = rw (eq-eqb (octet frame 4 / 128) 0 none)
+secondary-tested frame (inr s) =
+    rw (eq-eqb (octet frame 6 / 64) 0 (s .version), lt-ltb 0 (octet frame 6 % 64) (s .lengthField)) (or-true (eqb (octet frame 4 / 128) 0))
+
+secondary-kept : (frame : List ℕ) (none : Bool) → eqb (tmSecondary frame) 0 ≡ none → (none || secondaryRules frame) ≡ true
+    → (octet frame 4 / 128 ≡ 0) ⊎ SecondaryHeader frame
+secondary-kept frame true e rules = inl (eqb-true (octet frame 4 / 128) 0 e)
+secondary-kept frame false e rules =
+    inr
+    (record {
+      version = eqb-true (octet frame 6 / 64) 0 (search and-left);
+      lengthField = ltb-true 0 (octet frame 6 % 64) (search and-right);
+    })
 
 tm-describes : Describes tmForm tm
 tm-describes =
     record {
-      tested = λ frame t. (ap₂ _&&_ (eq-eqb _ 0 (t .version)) (eq-eqb _ 0 (t .secondary)), refl);
+      tested = λ frame t. (ap₂ _&&_ (eq-eqb _ 0 (t .version)) (secondary-tested frame (t .secondary)), refl);
       kept = λ frame rules counted.
           record {
             version = eqb-true (octet frame 0 / 64) 0 (search and-left);
-            secondary = eqb-true (octet frame 4 / 128) 0 (search and-right);
+            secondary = secondary-kept frame (eqb (tmSecondary frame) 0) refl (search and-right);
           };
       header = λ frame. refl;
       trailer = λ frame. refl;
       largest = refl;
       ending = refl;
-      copied = λ n clear j small fits below. getD-take 6 clear j 0 below;
+      copied = λ n clear j small fits below. getD-take (tmHeader clear) clear j 0 below;
       spacecraft = λ frame. refl;
       channel = λ frame. refl;
       map = λ frame. refl;
       mostSpacecraft = refl;
       mostChannel = refl;
       mostMap = refl;
-      short = λ frame. omega arith;
     }
+
+-- ---- AOS, and no kind
 
 aos-describes : Describes aosForm aos
 aos-describes =
@@ -156,7 +174,6 @@ aos-describes =
       mostSpacecraft = refl;
       mostChannel = refl;
       mostMap = refl;
-      short = λ frame. omega arith;
     }
 
 none-describes : Describes noForm noKind
@@ -175,7 +192,6 @@ none-describes =
       mostSpacecraft = refl;
       mostChannel = refl;
       mostMap = refl;
-      short = λ frame. omega arith;
     }
 
 -- ---- whatever the number names
@@ -188,18 +204,26 @@ described number = by-test (eqb number 1) (eqb number 2) (eqb number 3) (eqb num
         → Describes (cond a plainTcForm (cond b segmentedTcForm (cond c tmForm (cond d aosForm noForm))))
         (kindBehind (cond a (answer.Kind kind.Tc) (cond b (answer.Kind kind.SegmentedTc)
         (cond c (answer.Kind kind.Tm) (cond d (answer.Kind kind.Aos) answer.Nothing)))))
-    by-test true b c d = tc-describes 5 0 (λ frame. 0) (omega arith) (omega arith)
-    by-test false true c d = tc-describes 6 63 (λ frame. octet frame 5 % 64) (omega arith) (omega arith)
+    by-test true b c d = tc-describes 5 0 (λ frame. 0) (omega arith)
+    by-test false true c d = tc-describes 6 63 (λ frame. octet frame 5 % 64) (omega arith)
     by-test false false true d = tm-describes
     by-test false false false true = aos-describes
     by-test false false false false = none-describes
 
--- ---- the mask, where it reaches over the header
+-- ---- a mask of six octets
 
-pub under-mask : (mask header : List ℕ) → length header ≤ length mask → masked mask header ≡ underMask mask header
-under-mask mask header reaches =
-    let long = length-masked mask header in
-    ext-getD 0 (masked mask header) (underMask mask header) (simp (length-masked, length-tab))
-    (λ i below.
-    let inside : i < length header = omega arith in
-    rw octet-tab (octet-reached mask header i (omega arith)))
+module _ (mask header : List ℕ) (six : length mask ≡ 6) where
+  masked-at : (i : ℕ) → octet (masked mask header) i ≡ cond (ltb i 6) (bitAnd (octet header i) (octet mask i)) (octet header i)
+  masked-at i = by-place (decLt i 6)
+    where
+      by-place : Dec (i < 6) → octet (masked mask header) i ≡ cond (ltb i 6) (bitAnd (octet header i) (octet mask i)) (octet header i)
+      by-place (yes l) = rw (lt-ltb i 6 l) (octet-reached mask header i (omega arith))
+      by-place (no g) = rw (le-ltb i 6 (omega arith)) (octet-beyond mask header i (omega arith))
+
+  pub under-mask : masked mask header ≡ underMask mask header
+  under-mask =
+      let long = length-masked mask header in
+      ext-getD 0 (masked mask header) (underMask mask header) (simp (length-masked, length-tab))
+      (λ i below.
+      let inside : i < length header = omega arith in
+      rw octet-tab (masked-at i))

@@ -7,7 +7,7 @@ use mathlib.Core.Bool.{Bool, true, false, _&&_, _||_, not, cond}
 use mathlib.Core.List.{List, _++_}
 use native.Mathlib.Omega.{arith}
 use lib.Dec.{eqb}
-use lib.ListN.{length, take, drop, length-take}
+use lib.ListN.{length, take, drop}
 use lib.Seq.{slice}
 use Rattle.octets.specs.Numbers.{numberAt, bytes}
 use Rattle.octets.specs.Same.{same}
@@ -163,7 +163,7 @@ module _ (h : Held) (said : Said) (frame : List ℕ) where
   made true mask key a b under = rw under
   made false mask key a b under = rw under
 
-  -- the mask of an entry has six octets, and so reaches over every header
+  -- the mask of an entry has six octets
   pub mac-right : length (h .mask) ≡ 6
       → macRight h (kindSaid said) frame ≡ same (rightMac (h .service) said (h .mask) (h .key) frame) (macOn said frame)
   unfolding macRight coveredBefore fieldIn textIn headerOf securityOf securedContent macOf service
@@ -173,7 +173,7 @@ module _ (h : Held) (said : Said) (frame : List ℕ) where
       rw (header-size said frame, trailer-size said frame)
       (ap (λ (m : List ℕ). same m (slice (end - 16) end frame))
       (made (eqb (h .service) 2) (h .mask) (h .key) (k .header frame) (end - 16)
-      (under-mask (h .mask) (take (k .header frame) frame) (omega (arith, length-take (k .header frame) frame, form said .short frame)))))
+      (under-mask (h .mask) (take (k .header frame) frame) six)))
 
 -- the data, both ways
 pub going-out : (number : ℕ) (key field clear : List ℕ) → service number .goingOut key field clear ≡ goingOut number key field clear

@@ -1,19 +1,20 @@
--- The promises are not empty. Under both services and every kind there are two ends that meet the conditions of the round trip; every
--- answer is given, with a check field and without; a bit of a frame may change; runs send and release, and one meets the bound on stores;
--- the same with TM associations of two channels, in version 2; and two images of different projects share an entry, or have none for a
--- frame. All of it by computing.
+-- The promises are not empty. Under both services and every kind, and behind the shortest and the longest secondary header, there are two
+-- ends that meet the conditions of the round trip; every answer is given, with a check field and without; a bit of a frame may change, also
+-- one that says how long its header is; runs send and release, and one meets the bound on stores; the same with TM associations of two
+-- channels, in version 2; and two images of different projects share an entry, or have none for a frame. All of it by computing.
 -- Assumes nothing.
-use Prim.Native.Nat.{ℕ, _+_, _<_}
+use Prim.Native.Nat.{ℕ, _+_, _-_, _<_}
 use mathlib.Core.Path.{_≡_, refl, _∙_}
 use mathlib.Core.Bool.{Bool, true, false, _&&_}
 use mathlib.Core.List.{List, [], _∷_, _++_}
 use native.Mathlib.Omega.{arith}
 use borrow.Author.Tests.{eqb-true, leb-true, ltb-true}
 use lib.Dec.{eqb, leb, ltb, lit<}
-use lib.ListN.{length, replicate, set}
+use lib.ListN.{length, take, replicate, set}
 use lib.Seq.{getD-set-other}
 use Rattle.octets.specs.Lists.{Octets, tab, part}
 use Rattle.octets.specs.Numbers.{number, bytes}
+use Rattle.octets.specs.Same.{same}
 use Rattle.octets.proofs.Alls.{and-left, and-right}
 use Rattle.octets.proofs.Bounds.{octets-nil, octets-cons}
 use Rattle.frame.specs.Closing.{fieldOk}
@@ -128,6 +129,34 @@ abbrev fieldedSecured : List ℕ
 fieldedSecured =
     0x00 ∷ 0x1B ∷ 0x14 ∷ 0x1D ∷ 0x00 ∷ 0x00 ∷ 0x09 ∷ 0x00 ∷ 0x00 ∷ 0x00 ∷ 0x40 ∷ 0xAA ∷ (replicate 16 0x00 ++ (0x7F ∷ 0x81 ∷ []))
 
+-- TM with a secondary header of n octets, 2 to 64: with no operational control field, and with one; behind it a check field, or nothing
+abbrev stampedFrom : ℕ → ℕ → List ℕ → List ℕ
+stampedFrom second n behind = 0x01 ∷ second ∷ 0x00 ∷ 0x00 ∷ 0x80 ∷ 0x00 ∷ (n - 1) ∷ (replicate (n - 1) 0xC7 ++ behind)
+
+abbrev stampedFrame : ℕ → List ℕ → List ℕ
+stampedFrame n field = stampedFrom 0xBA n (0xAA ∷ field)
+
+abbrev stampedOcfFrame : ℕ → List ℕ → List ℕ
+stampedOcfFrame n field = stampedFrom 0xBB n (0xAA ∷ 0x01 ∷ 0x02 ∷ 0x03 ∷ 0x04 ∷ field)
+
+-- the shortest and the longest with a check field
+abbrev fieldedShort : List ℕ
+fieldedShort = stampedFrame 2 (0x57 ∷ 0xF3 ∷ [])
+
+abbrev fieldedLong : List ℕ
+fieldedLong = stampedFrame 64 (0xBE ∷ 0x2B ∷ [])
+
+abbrev fieldedShortOcf : List ℕ
+fieldedShortOcf = stampedOcfFrame 2 (0x90 ∷ 0x62 ∷ [])
+
+abbrev fieldedLongOcf : List ℕ
+fieldedLongOcf = stampedOcfFrame 64 (0xD9 ∷ 0xB3 ∷ [])
+
+-- and the longest secured, with a right field, and with the MAC of nobody
+abbrev fieldedLongSecured : List ℕ
+fieldedLongSecured =
+    stampedFrom 0xBA 64 (0x00 ∷ 0x09 ∷ 0x00 ∷ 0x00 ∷ 0x00 ∷ 0x40 ∷ 0xAA ∷ (replicate 16 0x00 ++ (0x60 ∷ 0xB0 ∷ [])))
+
 -- TM of channel 1
 abbrev otherFrame : List ℕ
 otherFrame = 0x01 ∷ 0xB2 ∷ 0x00 ∷ 0x00 ∷ 0x00 ∷ 0x00 ∷ 0xBB ∷ []
@@ -167,6 +196,25 @@ pub conditions-met-with-field :
     ≡ true
 unfolding everything
 conditions-met-with-field = refl
+
+-- behind the shortest and the longest secondary header, with a check field and without, the data alone is in clear
+abbrev meetsStamped : Said → List ℕ → Bool
+meetsStamped said frame = meetsOne 1 said frame && meetsOne 2 said frame && same (dataInClear said frame) (0xAA ∷ [])
+
+pub conditions-met-behind-secondary-headers :
+    allTrue
+    (meetsStamped (bare 3) (stampedFrame 2 [])
+    ∷ meetsStamped (bare 3) (stampedOcfFrame 2 [])
+    ∷ meetsStamped (bare 3) (stampedFrame 64 [])
+    ∷ meetsStamped (bare 3) (stampedOcfFrame 64 [])
+    ∷ meetsStamped (fielded 3) fieldedShort
+    ∷ meetsStamped (fielded 3) fieldedShortOcf
+    ∷ meetsStamped (fielded 3) fieldedLong
+    ∷ meetsStamped (fielded 3) fieldedLongOcf
+    ∷ [])
+    ≡ true
+unfolding everything
+conditions-met-behind-secondary-headers = refl
 
 -- in version 2 an octet 0x22 of TM is the set of channels 1 and 5; of TC and AOS the octet is a channel. The other end may have the same set,
 -- another one that has the frame's channel, or version 1 and that channel
@@ -228,6 +276,54 @@ pub answers-given-with-field :
 unfolding everything
 answers-given-with-field = refl
 
+-- a secondary header that is none or a bad one, or leaves no octet of data, or in a secured frame no SPI: 3. Where it leaves the one, the
+-- other limits follow it: 5, 11 and 6
+abbrev stampedSent : List ℕ → List ℕ → ℕ
+stampedSent frame output = secured (imageOf 1 3 1 100 0) (oneNumber 63) (bare 3) 9 frame output .answer
+
+abbrev stampedChecked : List ℕ → List ℕ → ℕ
+stampedChecked frame output = checkedAs true (imageOf 1 3 2 100 0) (oneNumber 63) (bare 3) frame output .answer
+
+abbrev stamped : List ℕ → List ℕ
+stamped behind = 0x01 ∷ 0xBA ∷ 0x00 ∷ 0x00 ∷ 0x80 ∷ 0x00 ∷ behind
+
+pub answers-behind-secondary-headers :
+    let least : List ℕ = 0x00 ∷ 0x09 ∷ 0x00 ∷ 0x00 ∷ 0x00 ∷ 0x40 ∷ replicate 17 0x00 in
+    allTrue
+    (eqb (stampedSent (stamped []) room) 3
+    ∷ eqb (stampedSent (stamped (0x00 ∷ replicate 70 0xAA)) room) 3
+    ∷ eqb (stampedSent (stamped (0x41 ∷ replicate 70 0xAA)) room) 3
+    ∷ eqb (stampedSent (stamped (0x81 ∷ replicate 70 0xAA)) room) 3
+    ∷ eqb (stampedSent (stamped (0x3F ∷ replicate 63 0xAA)) room) 3
+    ∷ eqb (stampedSent (stamped (0x3F ∷ replicate 64 0xAA)) room) 0
+    ∷ eqb (stampedChecked (stamped (0x01 ∷ 0xC7 ∷ 0x00 ∷ [])) room) 3
+    ∷ eqb (stampedChecked (stamped (0x01 ∷ 0xC7 ∷ 0x00 ∷ 0x09 ∷ [])) room) 5
+    ∷ eqb (stampedChecked (stamped (0x01 ∷ 0xC7 ∷ take 22 least)) room) 5
+    ∷ eqb (stampedChecked (stamped (0x01 ∷ 0xC7 ∷ least)) (0x00 ∷ [])) 0
+    ∷ eqb (stampedChecked (stamped (0x01 ∷ 0xC7 ∷ least)) []) 6
+    ∷ eqb (stampedSent (stampedFrame 64 []) (replicate 92 0x00)) 6
+    ∷ eqb (stampedSent (stampedFrame 64 []) (replicate 93 0x00)) 0
+    ∷ eqb (stampedSent (stamped (0x3F ∷ replicate 2020 0xAA)) (replicate 2048 0x00)) 11
+    ∷ eqb (stampedSent (stamped (0x3F ∷ replicate 2019 0xAA)) (replicate 2048 0x00)) 0
+    ∷ [])
+    ≡ true
+unfolding everything
+answers-behind-secondary-headers = refl
+
+-- with a check field the room follows both: a secondary header that leaves no octet of data before the field gives 3, and a right field is
+-- asked for only then
+pub answers-behind-secondary-headers-with-field :
+    allTrue
+    (eqb (secured (imageOf 1 3 1 100 0) (oneNumber 63) (fielded 3) 9 (stamped (0x01 ∷ 0xC7 ∷ 0xAA ∷ 0x00 ∷ [])) room .answer) 3
+    ∷ eqb (secured (imageOf 1 3 1 100 0) (oneNumber 63) (fielded 3) 9 (stampedFrame 2 (0x57 ∷ 0xF2 ∷ [])) room .answer) 12
+    ∷ eqb (secured (imageOf 1 3 1 100 0) (oneNumber 63) (fielded 3) 9 fieldedShort room .answer) 0
+    ∷ eqb (checkedAs true (imageOf 1 3 2 100 0) (oneNumber 63) (fielded 3) fieldedLongSecured room .answer) 0
+    ∷ eqb (checkedAs true (imageOf 1 3 2 100 0) (oneNumber 63) (fielded 3) fieldedLongSecured [] .answer) 6
+    ∷ [])
+    ≡ true
+unfolding everything
+answers-behind-secondary-headers-with-field = refl
+
 -- ---- one bit changed: both answers are given, and the conditions are met by clear and by secured frames
 
 pub bits-seen :
@@ -240,6 +336,26 @@ pub bits-seen :
     ≡ true
 unfolding everything
 bits-seen = refl
+
+-- the bit may say how long the header is: the flag of a secondary header, set or taken away, and a bit of its length or of its version. Where
+-- the header that is then read fits, 12 is given, and else 3
+pub bits-of-secondary-headers-seen :
+    let sending : List ℕ → ℕ = λ frame. secured (imageOf 1 3 1 100 0) (oneNumber 63) (fielded 3) 9 frame room .answer in
+    let checking : List ℕ → ℕ = λ frame. checkedAs true (imageOf 1 3 2 100 0) (oneNumber 63) (fielded 3) frame room .answer in
+    allTrue
+    (eqb (sending (flipped 4 7 fieldedTm)) 3
+    ∷ eqb (sending (flipped 4 7 fieldedShort)) 12
+    ∷ eqb (sending (flipped 6 0 fieldedShort)) 3
+    ∷ eqb (sending (flipped 6 1 fieldedShort)) 3
+    ∷ eqb (sending (flipped 6 5 fieldedLong)) 12
+    ∷ eqb (sending (flipped 6 6 fieldedLong)) 3
+    ∷ eqb (checking (flipped 4 7 fieldedLongSecured)) 12
+    ∷ eqb (checking (flipped 6 5 fieldedLongSecured)) 12
+    ∷ eqb (checking (flipped 6 7 fieldedLongSecured)) 3
+    ∷ [])
+    ≡ true
+unfolding everything
+bits-of-secondary-headers-seen = refl
 
 -- any bit of a frame whose octets are octets and whose field is right
 any-bit : (said : Said) (frame : List ℕ) → said .checkField ≡ true → areOctets frame ≡ true → fieldOk (kindSaid said) frame ≡ true
@@ -258,6 +374,14 @@ bits-of-ocf = any-bit (fielded 3) fieldedOcf refl refl refl
 pub bits-of-secured : (p b : ℕ) → p < 30 → b < 8 → BitOf (fielded 1) fieldedSecured p b
 unfolding everything
 bits-of-secured = any-bit (fielded 1) fieldedSecured refl refl refl
+
+pub bits-of-secondary-header : (p b : ℕ) → p < 77 → b < 8 → BitOf (fielded 3) fieldedLongOcf p b
+unfolding everything
+bits-of-secondary-header = any-bit (fielded 3) fieldedLongOcf refl refl refl
+
+pub bits-of-secured-secondary-header : (p b : ℕ) → p < 95 → b < 8 → BitOf (fielded 3) fieldedLongSecured p b
+unfolding everything
+bits-of-secured-secondary-header = any-bit (fielded 3) fieldedLongSecured refl refl refl
 
 -- ---- runs
 
@@ -283,8 +407,10 @@ pub run-sends :
     × (sendings 1 (bare 4) aosFrame ≡ sendingsShown)
     × (sendings 2 (bare 4) aosFrame ≡ sendingsShown)
     × (sendings 1 (fielded 1) fieldedFrame ≡ sendingsShown)
+    × (sendings 1 (fielded 3) fieldedShort ≡ sendingsShown)
+    × (sendings 2 (bare 3) (stampedOcfFrame 64 []) ≡ sendingsShown)
 unfolding everything trace shows after
-run-sends = (refl, refl, refl, refl)
+run-sends = (refl, refl, refl, refl, refl, refl)
 
 -- a run over two channels of one set, interleaved, with a load and a cut between: one number for both
 abbrev sendingsOfSet : ℕ → List Shown
@@ -336,12 +462,16 @@ pub run-releases :
     × (releases 1 (bare 4) aosFrame ≡ restart ∷ released 64 ∷ [])
     × (releases 2 (bare 4) aosFrame ≡ restart ∷ released 64 ∷ [])
     × (releases 1 (fielded 1) fieldedFrame ≡ restart ∷ released 64 ∷ [])
+    × (releases 1 (fielded 3) fieldedShort ≡ restart ∷ released 64 ∷ [])
+    × (releases 2 (bare 3) (stampedOcfFrame 64 []) ≡ restart ∷ released 64 ∷ [])
 unfolding everything trace shows after
 run-releases = (
   rw (released-there 1 5 1 5 1 (bare 1) frameC refl .answer),
   rw (released-there 1 5 1 5 1 (bare 4) aosFrame refl .answer),
   rw (released-there 1 5 1 5 2 (bare 4) aosFrame refl .answer),
   rw (released-there 1 5 1 5 1 (fielded 1) fieldedFrame refl .answer),
+  rw (released-there 1 5 1 5 1 (fielded 3) fieldedShort refl .answer),
+  rw (released-there 1 5 1 5 2 (bare 3) (stampedOcfFrame 64 []) refl .answer),
 )
 
 -- ---- two projects' images

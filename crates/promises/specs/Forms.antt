@@ -1,15 +1,16 @@
--- Document 01, 'Frames' and 'The image', and document 02, requests 1 and 4: the kinds of frame, in the octets of a frame, to be laid beside those
--- sections. The promises name a kind in these words and not in those of the definitions that they are about, so that a definition which
+-- Document 01, 'Frames' and 'The image', and document 02, requests 1, 4 and 6: the kinds of frame, in the octets of a frame, to be laid beside
+-- those sections. The promises name a kind in these words and not in those of the definitions that they are about, so that a definition which
 -- skips a rule, reads another bit or copies less of a header breaks a promise. A kind is one record, and what is promised is stated once
 -- over any.
 -- Octets are numbered from 0, and the first bit of an octet is its most significant: octet / 64 are its first two bits, octet % 4 its last.
 -- Assumes nothing.
-use Prim.Native.Nat.{ℕ, _+_, _-_, _*_, _/_, _%_}
+use Prim.Native.Nat.{ℕ, _+_, _-_, _*_, _/_, _%_, _≤_}
 use mathlib.Core.Path.{_≡_}
+use mathlib.Core.Logic.{_⊎_}
 use mathlib.Core.Bool.{Bool, true, false, cond}
 use mathlib.Core.List.{List}
 use lib.Bits.{bitAnd}
-use lib.Dec.{eqb}
+use lib.Dec.{eqb, ltb}
 use lib.ListN.{length}
 use Rattle.octets.specs.Lists.{octet, tab}
 use Rattle.judging.specs.Said.{Said}
@@ -17,7 +18,7 @@ use Rattle.judging.specs.Said.{Said}
 pub record Form : Type 1 where
   -- what the bits of the header have to hold, the length field among them
   pub Header : List ℕ → Type 0
-  -- h, the octets of the header; f, those of the operational control field; and the largest frame
+  -- h, the octets of the header, a secondary header counted in; f, those of the operational control field; and the largest frame
   pub header : List ℕ → ℕ
   pub trailer : List ℕ → ℕ
   pub largest : ℕ
@@ -72,11 +73,16 @@ abbrev pub segmentedTcForm : Form
 segmentedTcForm = tcForm 6 (λ frame. octet frame 5 % 64) 63
 
 -- ---- TM, 6 octets: version 2 bits (0), spacecraft 10, virtual channel 3, OCF flag 1, two counts of 8, data field status 16, whose first bit
--- (secondary header) is 0. Flag 1 means that the last 4 octets are the operational control field
+-- is the flag of a secondary header. OCF flag 1 means that the last 4 octets are the operational control field
+
+-- the first octet of a secondary header: version 2 bits (0), and 6 that hold its length less one, 1 to 63
+pub record SecondaryHeader (tm : List ℕ) : Type 0 where
+  pub version : octet tm 6 / 64 ≡ 0
+  pub lengthField : 1 ≤ octet tm 6 % 64
 
 pub record TmHeader (tm : List ℕ) : Type 0 where
   pub version : octet tm 0 / 64 ≡ 0
-  pub secondary : octet tm 4 / 128 ≡ 0
+  pub secondary : (octet tm 4 / 128 ≡ 0) ⊎ SecondaryHeader tm
 
 -- there is no length field, so every octet is copied
 abbrev pub copiedOctet : ℕ → List ℕ → ℕ → ℕ
@@ -86,7 +92,7 @@ abbrev pub tmForm : Form
 tmForm =
     record {
       Header = TmHeader;
-      header = λ frame. 6;
+      header = λ frame. 6 + cond (eqb (octet frame 4 / 128) 0) 0 (octet frame 6 % 64 + 1);
       trailer = λ frame. 4 * (octet frame 1 % 2);
       largest = 2048;
       mayEndInField = true;
@@ -150,7 +156,8 @@ formOf kind =
 abbrev pub formSaid : Said → Form
 formSaid said = formOf (said .kind)
 
--- ---- the header as the MAC covers it: each octet ANDed with the mask
+-- ---- the header as the MAC covers it: each of its first six octets ANDed with the mask; behind them, in a secondary header, every bit is
+-- covered
 
 abbrev pub underMask : List ℕ → List ℕ → List ℕ
-underMask mask header = tab (length header) (λ j. bitAnd (octet header j) (octet mask j))
+underMask mask header = tab (length header) (λ j. cond (ltb j 6) (bitAnd (octet header j) (octet mask j)) (octet header j))

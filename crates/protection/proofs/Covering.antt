@@ -1,5 +1,5 @@
--- What the MAC covers before the data, written in two pieces: the masked header, then the security header as it stands. Twenty octets hold
--- it.
+-- What the MAC covers before the data, written in two pieces: the masked header, then the security header as it stands. An array of the
+-- most octets that it may be holds it.
 -- Assumes nothing.
 use Prim.Native.Nat.{ℕ, _+_, _-_, _≤_}
 use mathlib.Core.Path.{_≡_, refl, ap, _∙_}
@@ -17,7 +17,7 @@ use Rattle.kinds.proofs.Sizes.{header-most}
 use Rattle.octets.specs.Output.{written, fronted}
 use Rattle.association.specs.declared.held.Held.{Held}
 use Rattle.services.specs.SecurityHeader.{securityLength}
-use Rattle.protection.specs.Protection.{coveredBefore, coveredIn}
+use Rattle.protection.specs.Protection.{mostBefore, coveredBefore, coveredIn}
 use Rattle.services.proofs.ServiceLaws.{lawful}
 use Rattle.octets.proofs.Filling.{length-written, with-room, behind}
 use Rattle.protection.proofs.Slices.{slice-as-part}
@@ -66,23 +66,23 @@ module _ (k : Kind) (mask frame out : List ℕ) (h s : ℕ) (e : h ≡ k .header
       let l = length-covered in
       ap length w ∙ length-written (masked mask (headerOf k frame) ++ securityOf k s frame) out (omega arith)
 
--- ---- in an array of twenty octets, under what an association holds
+-- ---- in an array of the most octets, under what an association holds
 
 module _ (h : Held) (framing : Framing) (frame : List ℕ) where
-  pub at-most-twenty : framed framing .header frame + securityLength h ≤ 20
-  at-most-twenty = let m = header-most (framing .kind) frame in let f = lawful (h .service) .short in omega arith
+  pub covered-most : framed framing .header frame + securityLength h ≤ mostBefore
+  covered-most = let m = header-most (framing .kind) frame in let f = lawful (h .service) .short in omega arith
 
   module _ (s : ℕ) (e : s ≡ securityLength h) (fits : framed framing .header frame + s ≤ length frame) (whole : List ℕ)
-      (w : whole ≡ written (masked (h .mask) (headerOf (framed framing) frame) ++ securityOf (framed framing) s frame) (replicate 20 0)) where
-    pub twenty : length whole ≡ 20
-    twenty =
-        let t = at-most-twenty in
-        long-covered (framed framing) (h .mask) frame (replicate 20 0) (framed framing .header frame) s refl fits (omega arith) whole w
+      (w : whole ≡ written (masked (h .mask) (headerOf (framed framing) frame) ++ securityOf (framed framing) s frame) (replicate mostBefore 0)) where
+    pub long-before : length whole ≡ mostBefore
+    long-before =
+        let t = covered-most in
+        long-covered (framed framing) (h .mask) frame (replicate mostBefore 0) (framed framing .header frame) s refl fits (omega arith) whole w
 
     pub front : take (framed framing .header frame + s) whole
         ≡ coveredIn h (framed framing) frame
     unfolding coveredBefore
     front =
-        let t = at-most-twenty in
-        front-covered (framed framing) (h .mask) frame (replicate 20 0) (framed framing .header frame) s refl fits (omega arith) whole w
+        let t = covered-most in
+        front-covered (framed framing) (h .mask) frame (replicate mostBefore 0) (framed framing .header frame) s refl fits (omega arith) whole w
         ∙ ap (λ (x : ℕ). masked (h .mask) (headerOf (framed framing) frame) ++ securityOf (framed framing) x frame) e

@@ -1,6 +1,6 @@
--- Document 01, 'Frames': what securing makes of a clear frame, and what checking reads from a secured one, under what an association holds:
--- service, mask and key. The MAC covers the header (each octet ANDed with the mask), the security header and the data; not
--- the OCF, and not the check field, which is made last.
+-- Document 01, 'Frames', and document 02, requests 4 and 6: what securing makes of a clear frame, and what checking reads from a secured one,
+-- under what an association holds: service, mask and key. The MAC covers the header (each octet ANDed with the mask), the security header and
+-- the data; not the OCF, and not the check field, which is made last.
 -- Assumes nothing.
 use Prim.Native.Nat.{ℕ, _+_}
 use mathlib.Core.Bool.{Bool}
@@ -8,7 +8,7 @@ use mathlib.Core.List.{List, _++_}
 use lib.ListN.{length, drop}
 use Rattle.octets.specs.Numbers.{numberAt, bytes}
 use Rattle.octets.specs.Same.{same}
-use Rattle.kinds.specs.Kinds.{Kind}
+use Rattle.kinds.specs.Kinds.{Kind, mostHeader}
 use Rattle.frame.specs.Closing.{controlOf, closed}
 use Rattle.frame.specs.Masked.{masked}
 use Rattle.frame.specs.Parts as parts
@@ -17,6 +17,13 @@ use Rattle.association.specs.declared.held.Held.{Held}
 use Rattle.services.specs.SecurityHeader.{serviceIn, securityLength, fieldFor, numberFrom}
 
 -- ---- what the MAC covers before the data
+
+-- the most octets that it may be: the longest header, and the longer security header
+abbrev pub mostSecurity : ℕ
+mostSecurity = 14
+
+abbrev pub mostBefore : ℕ
+mostBefore = mostHeader + mostSecurity
 
 unfoldable pub coveredBefore : Held → List ℕ → List ℕ → List ℕ
 coveredBefore h header security = masked (h .mask) header ++ security

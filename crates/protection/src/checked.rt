@@ -1,4 +1,5 @@
 // Document 01, 'Frames': what a secured frame holds. The functions that read it ask for a frame that has room for its parts: answer 5 is past.
+use crate::cover::MOST_BEFORE;
 use crate::cover::cover;
 use association::Held;
 use frame::SecuredParts;
@@ -71,7 +72,7 @@ pub fn mac_right(opening: Opening, frame: &[u8]) -> bool
     let header = opening.parts.header;
     let security = opening.parts.security;
     let content = opening.parts.content;
-    let mut before: [u8; 20] = [0; 20];
+    let mut before: [u8; MOST_BEFORE] = [0; MOST_BEFORE];
     let covered = cover(framing, mask, security - header, frame, &mut before);
     let mac = block_at(frame, content);
     mac_is_right(

@@ -1,4 +1,4 @@
-// Document 01, 'Frames': what the MAC covers before the data.
+// Document 01, 'Frames', and document 02, request 6: what the MAC covers before the data.
 use frame::mask_header;
 use kinds::Framing;
 use octets::put_behind;
@@ -11,7 +11,15 @@ ghost use Rattle.frame.specs.Masked.{masked};
 ghost use Rattle.frame.specs.Parts.{headerOf, securityOf};
 ghost use Rattle.octets.specs.Output.{written};
 
-// The masked header and the security header of a frame, to the front of `out`; how many octets they are. The mask reaches the header alone.
+// The octets of the longest header, that of TM with the longest secondary header, and of the longer security header.
+const MOST_HEADER: usize = 6 + 64;
+
+const MOST_SECURITY: usize = 14;
+
+pub(crate) const MOST_BEFORE: usize = MOST_HEADER + MOST_SECURITY;
+
+// The masked header and the security header of a frame, to the front of `out`; how many octets they are. The mask reaches the primary header
+// alone.
 pub(crate) fn cover(
     framing: Framing,
     mask: [u8; 6],

@@ -1,4 +1,5 @@
 // Document 01, 'Frames': the secured frame, written to the front of the output piece behind piece.
+use crate::cover::MOST_BEFORE;
 use crate::cover::cover;
 use association::Held;
 use check_field::field_octets;
@@ -49,7 +50,7 @@ fn write_text(
     ensures { λ _. ⌜ now (output .exit) ≡ take (framed framing .header (now (output .entry)) + securityLength held) (now (output .entry)) ++ written (textUnder held (now (security .entry)) (now (clear .entry))) (drop (framed framing .header (now (output .entry)) + securityLength held) (now (output .entry))) ⌝ }
 {
     let mask = held.mask;
-    let mut before: [u8; 20] = [0; 20];
+    let mut before: [u8; MOST_BEFORE] = [0; MOST_BEFORE];
     let covered = cover(framing, mask, security.len(), output, &mut before);
     protect(
         held,

@@ -44,7 +44,7 @@ module _ (h : Held) (security : List ℕ) (two : h .service ≡ 2) (long : lengt
       let l : length security ≡ 14 = rw (encrypts (h .service) two) at long in
       read ∙ part-inside 2 12 security (omega arith) ∙ take-all 12 (drop 2 security) (simp length-drop (omega arith))
 
-  module _ (before : List ℕ) (lb : length before ≤ 20) where
+  module _ (before : List ℕ) (lb : length before ≤ 2048) where
     pub sealing : (clear out : List ℕ) → length clear ≤ 2048 → length clear ≤ length out
         → let text = textUnder h security clear in
         sealed (h .key) iv before clear out ≡ call (withTag answer.Done (macUnder h security before text)) (written text out)

@@ -20,7 +20,7 @@ pub fn protect(
     clear: &[u8],
     text: &mut [u8],
 ) -> [u8; 16]
-    requires { ⌜ (length (now security) ≡ securityLength held) × (length (now before) ≤ 20) × (length (now clear) ≤ 2048) × (length (now clear) ≤ length (now text)) ⌝ }
+    requires { ⌜ (length (now security) ≡ securityLength held) × (length (now before) ≤ 2048) × (length (now clear) ≤ 2048) × (length (now clear) ≤ length (now text)) ⌝ }
     ensures { λ r. ⌜ r ≡ macUnder held (now (security .entry)) (now (before .entry)) (textUnder held (now (security .entry)) (now (clear .entry))) ⌝ }
     ensures { λ _. ⌜ now (text .exit) ≡ written (textUnder held (now (security .entry)) (now (clear .entry))) (now (text .entry)) ⌝ }
 {
@@ -42,7 +42,7 @@ pub fn mac_is_right(
     text: &[u8],
     mac: [u8; 16],
 ) -> bool
-    requires { ⌜ (now expanded ≡ keyExpansion (held .key)) × (length (now security) ≡ securityLength held) × (length (now before) ≤ 20) × (length (now text) ≤ 2048) ⌝ }
+    requires { ⌜ (now expanded ≡ keyExpansion (held .key)) × (length (now security) ≡ securityLength held) × (length (now before) ≤ 2048) × (length (now text) ≤ 2048) ⌝ }
     ensures { λ r. ⌜ r ≡ same (macUnder held (now (security .entry)) (now (before .entry)) (now (text .entry))) mac ⌝ }
 {
     if held.service == 2 {

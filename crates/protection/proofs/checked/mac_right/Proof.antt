@@ -10,9 +10,9 @@ use Rattle.octets.specs.Same.{same}
 use Rattle.kinds.specs.Kinds.{framed}
 use Rattle.frame.specs.Parts.{securityOf}
 use Rattle.services.specs.SecurityHeader.{securityLength}
-use Rattle.protection.specs.Protection.{fieldIn, coveredIn, textIn, macRight}
+use Rattle.protection.specs.Protection.{mostBefore, fieldIn, coveredIn, textIn, macRight}
 use Rattle.services.specs.Steps.{macUnder}
-use Rattle.protection.proofs.Covering.{at-most-twenty, twenty, front}
+use Rattle.protection.proofs.Covering.{covered-most, long-before, front}
 use Rattle.protection.proofs.Reading.{Placed, placed, key-expanded, security-lent, text-lent, mac-read}
 use borrow.Author.Needs.{needs}
 use Rattle.protection.proofs.checked.mac_right.Statement.{statement}
@@ -36,7 +36,7 @@ before c = c .cover .last .1 .1 .1 .1 .0
 cover-requires : tie.Need-cover-requires
 cover-requires c κs =
     let g = start (c .before) .args in
-    let t = at-most-twenty (g .opening .held) (g .opening .framing) (g .frame .now) in
+    let t = covered-most (g .opening .held) (g .opening .framing) (g .frame .now) in
     let p = places (c .before) in
     (omega arith, omega arith)
 
@@ -47,12 +47,12 @@ counted : (c : tie.After-cover) → let g = start (opened c) .args in
     c .cover .result ≡ framed (g .opening .framing) .header (g .frame .now) + securityLength (g .opening .held)
 counted c = omega (arith, c .cover .ensures .0, long c)
 
-filled : (c : tie.After-cover) → length (before c) ≡ 20
+filled : (c : tie.After-cover) → length (before c) ≡ mostBefore
 filled c =
     let g = start (opened c) .args in
     let o = g .opening in
     let p = within c in
-    twenty (o .held) (o .framing) (g .frame .now) (o .parts .security - o .parts .header) (long c) (omega arith) (before c) (c .cover .ensures .1)
+    long-before (o .held) (o .framing) (g .frame .now) (o .parts .security - o .parts .header) (long c) (omega arith) (before c) (c .cover .ensures .1)
 
 covered : (c : tie.After-cover) → let g = start (opened c) .args in
     take (c .cover .result) (before c) ≡ coveredIn (g .opening .held) (framed (g .opening .framing)) (g .frame .now)
@@ -70,14 +70,14 @@ array-share-prefix-before : tie.Need-array-share-prefix-before
 array-share-prefix-before c =
     let d = c .before .before .before .before in
     let g = start (opened d) .args in
-    let t = at-most-twenty (g .opening .held) (g .opening .framing) (g .frame .now) in
+    let t = covered-most (g .opening .held) (g .opening .framing) (g .frame .now) in
     omega (arith, counted d, filled d)
 
 slice-aggregate-mac-is-right : tie.Need-slice-aggregate-mac-is-right
 slice-aggregate-mac-is-right c =
     let d = c .before .before .before .before .before in
     let g = start (opened d) .args in
-    let t = at-most-twenty (g .opening .held) (g .opening .framing) (g .frame .now) in
+    let t = covered-most (g .opening .held) (g .opening .framing) (g .frame .now) in
     sym (length-take-le _ _ (omega (arith, counted d, filled d)))
 
 mac-is-right-requires : tie.Need-mac-is-right-requires
@@ -86,7 +86,7 @@ mac-is-right-requires c κs =
     let s = start (opened d) in
     let g = s .args in
     let p = within d in
-    let t = at-most-twenty (g .opening .held) (g .opening .framing) (g .frame .now) in (
+    let t = covered-most (g .opening .held) (g .opening .framing) (g .frame .now) in (
       key-expanded (g .opening) (g .frame .now) (s .pre),
       rw (length-take, length-drop) (omega arith),
       rw length-take (omega (arith, counted d)),

@@ -9,9 +9,9 @@ use lib.Seq.{length-take-le}
 use Rattle.octets.specs.Output.{written}
 use Rattle.kinds.specs.Kinds.{framed}
 use Rattle.services.specs.SecurityHeader.{securityLength}
-use Rattle.protection.specs.Protection.{coveredIn}
+use Rattle.protection.specs.Protection.{mostBefore, coveredIn}
 use Rattle.services.specs.Steps.{textUnder, macUnder}
-use Rattle.protection.proofs.Covering.{at-most-twenty, twenty, front}
+use Rattle.protection.proofs.Covering.{covered-most, long-before, front}
 use Rattle.octets.proofs.Filling.{lent-back}
 use borrow.Author.Needs.{needs}
 use Rattle.protection.proofs.secured.write_text.Statement.{statement}
@@ -26,17 +26,17 @@ before c = c .cover .last .1 .1 .1 .1 .0
 cover-requires : tie.Need-cover-requires
 cover-requires c κs =
     let g = c .before .before .before .before .before .before .args in
-    let t = at-most-twenty (g .held) (g .framing) (g .output .now) in
+    let t = covered-most (g .held) (g .framing) (g .output .now) in
     (omega arith, omega arith)
 
 counted : (c : tie.After-cover) → let g = start c .args in
     c .cover .result ≡ framed (g .framing) .header (g .output .now) + securityLength (g .held)
 counted c = omega (arith, c .cover .ensures .0)
 
-filled : (c : tie.After-cover) → length (before c) ≡ 20
+filled : (c : tie.After-cover) → length (before c) ≡ mostBefore
 filled c =
     let g = start c .args in
-    twenty (g .held) (g .framing) (g .output .now) (length (g .security .now)) (search needs) (omega arith) (before c) (c .cover .ensures .1)
+    long-before (g .held) (g .framing) (g .output .now) (length (g .security .now)) (search needs) (omega arith) (before c) (c .cover .ensures .1)
 
 covered : (c : tie.After-cover) → let g = start c .args in
     take (c .cover .result) (before c) ≡ coveredIn (g .held) (framed (g .framing)) (g .output .now)
@@ -48,21 +48,21 @@ covered c =
 array-share-prefix-before : tie.Need-array-share-prefix-before
 array-share-prefix-before c =
     let g = start (c .before) .args in
-    let t = at-most-twenty (g .held) (g .framing) (g .output .now) in
+    let t = covered-most (g .held) (g .framing) (g .output .now) in
     omega (arith, counted (c .before), filled (c .before))
 
 slice-aggregate-protect : tie.Need-slice-aggregate-protect
 slice-aggregate-protect c =
     let d = c .before .before in
     let g = start d .args in
-    let t = at-most-twenty (g .held) (g .framing) (g .output .now) in
+    let t = covered-most (g .held) (g .framing) (g .output .now) in
     sym (length-take-le _ _ (omega (arith, counted d, filled d)))
 
 protect-requires : tie.Need-protect-requires
 protect-requires c κs =
     let d = c .before .before .before in
     let g = start d .args in
-    let t = at-most-twenty (g .held) (g .framing) (g .output .now) in
+    let t = covered-most (g .held) (g .framing) (g .output .now) in
     let n = counted d in (
       search needs,
       rw length-take (omega arith),
