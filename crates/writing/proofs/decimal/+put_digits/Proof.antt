@@ -7,16 +7,16 @@ use lib.ListN.{length}
 use borrow.Author.Needs.{needs}
 use borrow.Fn.Kinds.{In}
 use borrow.Fn.PlainCycle.{Measures, is, falls, and}
-use Rattle.listing_text.specs.Text.{digits}
-use Rattle.listing_text.proofs.Decimals.{digits-none, digits-one, digits-more, digits-longer}
-use Rattle.listing_text.proofs.Puts.{put-none, put-then}
-use Rattle.listing_text.proofs.output.put_octet.Reads as put-octet
-use Rattle.listing_text.proofs.text.digit.Reads as digit
-use Rattle.listing_text.proofs.text.put_digits.Reads as put-digits
-use Rattle.listing_text.proofs.text.put_digits.Kinds.{ps}
-use Rattle.listing_text.proofs.text.+put_digits.Lts-put_digits as lts
-use Rattle.listing_text.proofs.text.+put_digits.{statement}
-use Rattle.listing_text.proofs.text.+put_digits.Tie.{close}
+use Rattle.writing.specs.Text.{digits}
+use Rattle.writing.proofs.Decimals.{digits-none, digits-one, digits-more, digits-longer}
+use Rattle.writing.proofs.Puts.{put-none, put-then}
+use Rattle.writing.proofs.output.put_octet.Reads as put-octet
+use Rattle.writing.proofs.decimal.digit.Reads as digit
+use Rattle.writing.proofs.decimal.put_digits.Reads as put-digits
+use Rattle.writing.proofs.decimal.put_digits.Kinds.{ps}
+use Rattle.writing.proofs.decimal.+put_digits.Lts-put_digits as lts
+use Rattle.writing.proofs.decimal.+put_digits.{statement}
+use Rattle.writing.proofs.decimal.+put_digits.Tie.{close}
 
 -- the measure is how many digits there are at most
 abbrev μ : Measures 1 ps ℕ

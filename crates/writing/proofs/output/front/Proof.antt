@@ -3,8 +3,8 @@
 use mathlib.Core.Path.{sym}
 use lib.Seq.{take-all, length-take-le}
 use borrow.Author.Needs.{needs}
-use Rattle.listing_text.proofs.output.front.Statement.{statement}
-use Rattle.listing_text.proofs.output.front.Tie as tie
+use Rattle.writing.proofs.output.front.Statement.{statement}
+use Rattle.writing.proofs.output.front.Tie as tie
 
 slice-aggregate-result : tie.Need-slice-aggregate-result
 slice-aggregate-result c = sym (length-take-le (c .before .before .args .n) (c .before .before .args .s .now) (search needs))

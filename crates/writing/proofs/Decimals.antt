@@ -10,7 +10,7 @@ use borrow.Author.Tests.{lt-ltb, le-ltb}
 use lib.Dec.{lit<}
 use lib.ListN.{length, length-append, List·getD-append}
 use Rattle.octets.specs.Lists.{octet}
-use Rattle.listing_text.specs.Text.{digits}
+use Rattle.writing.specs.Text.{digits}
 
 pub digits-none : (most n : ℕ) → most ≡ 0 → digits most n ≡ []
 unfolding digits

@@ -1,9 +1,9 @@
 -- `put_octet` is right because its one store changes nothing before the place.
 -- Assumes nothing.
 use borrow.Author.Needs.{needs}
-use Rattle.listing_text.proofs.Puts.{put-octet}
-use Rattle.listing_text.proofs.output.put_octet.Statement.{statement}
-use Rattle.listing_text.proofs.output.put_octet.Tie as tie
+use Rattle.writing.proofs.Puts.{put-octet}
+use Rattle.writing.proofs.output.put_octet.Statement.{statement}
+use Rattle.writing.proofs.output.put_octet.Tie as tie
 
 returns : tie.Need-returns
 returns c = put-octet _ _ _ (search needs)

@@ -10,8 +10,8 @@ use lib.ListN.{length, set, take, drop, length-append, length-set}
 use lib.Seq.{take-suc, take-suc-set, drop-set-lt, drop-drop}
 use Rattle.octets.specs.Lists.{octet}
 use Rattle.octets.specs.Output.{fronted}
-use Rattle.listing_text.specs.Output.{Put, listed}
-use Rattle.listing_text.specs.declared.output.Listed.the-variants as answer
+use Rattle.writing.specs.Output.{Put, writtenTo}
+use Rattle.writing.specs.declared.output.Written.the-variants as answer
 
 pub put-none : (out : List ℕ) (at : ℕ) → Put out at [] out at
 put-none out at = record { size = refl; place = omega arith; front = sym (append-nil (take at out)); rest = refl }
@@ -41,11 +41,11 @@ put-more text i inside p q = rw (add-one, take-suc text i 0) (put-then p q)
 
 -- ---- a text at the front of an output, or nothing
 
-pub no-room : (text out : List ℕ) → length out < length text → (answer.NoRoom ≡ listed text out) × (out ≡ fronted text out)
-unfolding listed fronted
+pub no-room : (text out : List ℕ) → length out < length text → (answer.NoRoom ≡ writtenTo text out) × (out ≡ fronted text out)
+unfolding writtenTo fronted
 no-room text out short = (rw (lt-leb (length text) (length out) short), rw (lt-leb (length text) (length out) short))
 
 pub all-written : (text out : List ℕ) → length text ≤ length out
-    → (answer.Text (length text) ≡ listed text out) × (text ++ drop (length text) out ≡ fronted text out)
-unfolding listed fronted
+    → (answer.Text (length text) ≡ writtenTo text out) × (text ++ drop (length text) out ≡ fronted text out)
+unfolding writtenTo fronted
 all-written text out room = (rw (le-leb (length text) (length out) room), rw (le-leb (length text) (length out) room))

@@ -4,9 +4,9 @@ use native.Mathlib.Omega.{arith}
 use borrow.Author.Needs.{needs}
 use Rattle.listing_text.specs.Listing.{field}
 use Rattle.listing_text.proofs.Parts.{length-field}
-use Rattle.listing_text.proofs.Puts.{put-then}
-use Rattle.listing_text.proofs.text.put_field.Statement.{statement}
-use Rattle.listing_text.proofs.text.put_field.Tie as tie
+use Rattle.writing.proofs.Puts.{put-then}
+use Rattle.listing_text.proofs.fields.put_field.Statement.{statement}
+use Rattle.listing_text.proofs.fields.put_field.Tie as tie
 
 put-decimal-requires : tie.Need-put-decimal-requires
 put-decimal-requires c κs = omega (arith, length-field (c .before .before .args .n))

@@ -7,11 +7,11 @@ use lib.ListN.{length, take}
 use lib.Seq.{take-all}
 use borrow.Author.Needs.{needs}
 use Rattle.listing_text.specs.Listing.{fields}
-use Rattle.listing_text.specs.Output.{Put}
+use Rattle.writing.specs.Output.{Put}
 use Rattle.listing_text.proofs.Parts.{fields-more, fields-within}
-use Rattle.listing_text.proofs.Puts.{put-none, put-then}
-use Rattle.listing_text.proofs.text.put_fields.Statement.{statement}
-use Rattle.listing_text.proofs.text.put_fields.Tie as tie
+use Rattle.writing.proofs.Puts.{put-none, put-then}
+use Rattle.listing_text.proofs.fields.put_fields.Statement.{statement}
+use Rattle.listing_text.proofs.fields.put_fields.Tie as tie
 
 abbrev Inv-loop : tie.InvT-loop
 Inv-loop out₀ at numbers behind₀ i₀ out behind i = (i ≤ 6) × Put out₀ at (fields (take i numbers)) out behind

@@ -5,10 +5,10 @@ use Prim.Native.Nat.{_+_, _-_, _≤_}
 use lib.ListN.{length, take}
 use lib.Seq.{take-all}
 use borrow.Author.Needs.{needs}
-use Rattle.listing_text.specs.Output.{Put}
-use Rattle.listing_text.proofs.Puts.{put-none, put-more}
-use Rattle.listing_text.proofs.output.put_text.Statement.{statement}
-use Rattle.listing_text.proofs.output.put_text.Tie as tie
+use Rattle.writing.specs.Output.{Put}
+use Rattle.writing.proofs.Puts.{put-none, put-more}
+use Rattle.writing.proofs.output.put_text.Statement.{statement}
+use Rattle.writing.proofs.output.put_text.Tie as tie
 
 abbrev Inv-loop : tie.InvT-loop
 Inv-loop out₀ at text behind₀ i₀ out behind i = (i ≤ length text) × (behind ≡ at + i) × Put out₀ at (take i text) out behind

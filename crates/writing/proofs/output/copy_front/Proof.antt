@@ -8,9 +8,9 @@ use lib.ListN.{length, take, drop}
 use lib.Seq.{take-length}
 use borrow.Author.Needs.{needs}
 use Rattle.octets.proofs.Filling.{front-more}
-use Rattle.listing_text.proofs.Puts.{no-room, all-written}
-use Rattle.listing_text.proofs.output.copy_front.Statement.{statement}
-use Rattle.listing_text.proofs.output.copy_front.Tie as tie
+use Rattle.writing.proofs.Puts.{no-room, all-written}
+use Rattle.writing.proofs.output.copy_front.Statement.{statement}
+use Rattle.writing.proofs.output.copy_front.Tie as tie
 
 abbrev Inv-loop : tie.InvT-loop
 Inv-loop text out₀ i₀ out i = (i ≤ length text) × (length out ≡ length out₀) × (out ≡ take i text ++ drop i out₀)
