@@ -20,7 +20,7 @@ use Rattle.writing.specs.Text.{ascii, decimal}
 use Rattle.salvage_entries.specs.Kept.{bodyThere, keptEntries, isKept, newIndex, oldIndex}
 use Rattle.salvage_entries.specs.Tests.{someOf, howMany, firstWith}
 use Rattle.salvage_text.specs.KeptOf.{KeptOf}
-use Rattle.salvage_text.specs.Salvage.{newCount, newPlace, newEntry, newBody, lineAbout, stays, lineOf}
+use Rattle.salvage_text.specs.Salvage.{endToEnd, newCount, newPlace, newEntry, newBody, newImage, lineAbout, stays, lineOf}
 
 -- ---- octets
 
@@ -82,6 +82,17 @@ body-is x index old position a b = rw (b, a)
 pub long-body : (x : List ℕ) (j : ℕ) → length (newBody x j) ≡ layout x .body
 unfolding newBody
 long-body x j = length-there x (versionOf x) (positionOf x (oldIndex x j))
+
+-- ---- the image
+
+pub image-is : (x kept : List ℕ) (version : ℕ) → KeptOf x kept → version ≡ versionOf x
+    → newImage x ≡ version ∷ length kept ∷ (endToEnd (length kept) (newEntry x) ++ endToEnd (length kept) (newBody x))
+unfolding newImage
+image-is x kept version k e = rw (e, count-is x kept k)
+
+pub image-long : (x : List ℕ) → length (newImage x) ≡ 2 + length (endToEnd (newCount x) (newEntry x)) + length (endToEnd (newCount x) (newBody x))
+unfolding newImage
+image-long x = simp length-append (omega arith)
 
 -- ---- a line
 
