@@ -3,10 +3,10 @@
 use libc::STDERR_FILENO;
 use libc::STDIN_FILENO;
 use libc::STDOUT_FILENO;
-use salvage_text::LONGEST_IMAGE;
-use salvage_text::LONGEST_LINES;
-use salvage_text::write_image;
-use salvage_text::write_lines;
+use salvage_image::LONGEST_IMAGE;
+use salvage_image::write_image;
+use salvage_lines::LONGEST_LINES;
+use salvage_lines::write_lines;
 use writing::text_in;
 
 // One octet more than an image can have: of a longer input that many are read, and they are refused, as no image is that long.

@@ -2,7 +2,7 @@
 -- is kept is decided by itself and those kept before it, and nothing later undoes it.
 -- Assumes nothing.
 use mathlib.Core.Path.{_≡_, refl, sym, ap, _∙_}
-use mathlib.Core.Bool.{Bool, true, false, _||_, _&&_, not, cond}
+use mathlib.Core.Bool.{Bool, true, false, _&&_, cond}
 use mathlib.Core.List.{List, [], _∷_, _++_}
 use Prim.Native.Nat.{ℕ, zero, suc, _+_, _≤_, _<_}
 use native.Mathlib.Decide.{decLt, ℕ-discrete}
@@ -14,7 +14,7 @@ use Rattle.octets.proofs.Alls.{and-left, and-right}
 use Rattle.bodies.specs.Body.{bodyOk}
 use Rattle.image.specs.Image.{versionOf, countOf, spiOf, positionOf, layout}
 use Rattle.salvage_entries.specs.Tests.{someOf}
-use Rattle.salvage_entries.specs.Kept.{bodyThere, bodyPlaces, keepable, keptAmong, isKept}
+use Rattle.salvage_entries.specs.Kept.{bodyThere, keepable, keptAmong, isKept}
 use Rattle.salvage_entries.proofs.Members.{In}
 use Rattle.salvage_entries.proofs.TestLaws.{or-false, some-last}
 

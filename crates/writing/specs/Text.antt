@@ -1,4 +1,4 @@
--- Text as octets: the codes of a text's characters, and a number in decimal.
+-- Text as octets: the codes of a text's characters, a number in decimal, and texts end to end.
 -- Assumes nothing.
 use Prim.Native.Char.{code}
 use Prim.Native.Nat.{ℕ, zero, suc, _+_, _/_, _%_}
@@ -20,3 +20,8 @@ digits (suc most) n = cond (ltb n 10) [] (digits most (n / 10)) ++ ((48 + n % 10
 -- a number below 10 ^ 10, as every one is that the module writes
 abbrev pub decimal : ℕ → List ℕ
 decimal n = digits 10 n
+
+-- the texts f 0, f 1, .., f (n - 1) end to end
+unfoldable pub endToEnd : ℕ → (ℕ → List ℕ) → List ℕ
+endToEnd zero f = []
+endToEnd (suc n) f = endToEnd n f ++ f n

@@ -1,10 +1,8 @@
 -- `at_place` is right because each turn joins the test of one place more.
 -- Assumes nothing.
-use mathlib.Core.Path.{_≡_}
 use Prim.Native.Nat.{_-_}
-use native.Mathlib.Omega.{arith}
 use lib.Dec.{eqb}
-use Rattle.image.specs.Image.{countOf, positionOf, bodyAt}
+use Rattle.image.specs.Image.{positionOf, bodyAt}
 use Rattle.salvage_entries.proofs.TestLaws.{SomeOfRule, rule-none, rule-turn, rule-end}
 use borrow.Author.Needs.{needs}
 use Rattle.salvage_entries.proofs.keeping.at_place.Statement.{statement}
