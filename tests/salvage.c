@@ -113,7 +113,8 @@ static size_t damage(struct run *run, uint8_t *octets, size_t length)
     uint32_t bits = random_between(random, 1, random_percent(random, 50) ? 2 : 32);
     size_t among = random_percent(random, 70) ? 2 + CONTENTS * run->count : length;
     for (uint32_t i = 0; i < bits; i++) {
-        flip(octets, 8 * (random_percent(random, 90) ? 2 : 0) + random_below(random, (uint32_t)(8 * among - 16)));
+        size_t from = random_percent(random, 90) ? 16 : 0; /* version and count are hit too, but seldom: with them all else is lost */
+        flip(octets, from + random_below(random, (uint32_t)(8 * among - 16)));
     }
     damaged_bits += bits;
     if (random_percent(random, 20)) {
