@@ -70,7 +70,7 @@ has-map (suc (suc (suc (suc (suc n))))) =
 
 -- ---- the versions that there are
 
-pub known : (version : ℕ) → versionOk version ≡ true → (1 ≤ version) × (version ≤ 2)
+known : (version : ℕ) → versionOk version ≡ true → (1 ≤ version) × (version ≤ 2)
 unfolding layoutOf
 known zero e = let z : _≡_ {A = ℕ} 0 1 = cc in absurd (omega arith)
 known (suc zero) e = (omega arith, omega arith)

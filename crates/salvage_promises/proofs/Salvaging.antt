@@ -6,17 +6,18 @@ use mathlib.Core.Bool.{Bool, true, false, _&&_, _||_}
 use mathlib.Core.List.{List, []}
 use Prim.Native.Nat.{ℕ, zero, suc, _≤_}
 use native.Mathlib.Omega.{arith}
-use borrow.Author.Tests.{le-leb}
+use borrow.Author.Tests.{le-leb, ne-eqb}
 use lib.Dec.{eqb}
 use lib.ListN.{length}
 use Rattle.octets.specs.Lists.{Octets}
+use Rattle.octets.proofs.Alls.{and-left, and-right}
 use Rattle.image.specs.Image.{versionOf, countOf, validImage}
 use Rattle.salvage_image.specs.Salvage.{salvageable, salvagedImage}
 use Rattle.salvage_image.proofs.Sizes.{Taken, taken, image-taken, image-refused}
 use Rattle.salvage_lines.specs.Lines.{salvageLines}
 use Rattle.salvage_lines.proofs.LineParts.{lines-taken, lines-refused}
 use Rattle.promises.specs.Images.{versionIn, ImageRules}
-use Rattle.promises.proofs.Valids.{known, rules-kept, rules-valid}
+use Rattle.promises.proofs.Valids.{rules-kept, rules-valid}
 use Rattle.salvage_promises.specs.Salvaging.{Accepted, Salvaging}
 use Rattle.salvage_promises.proofs.Afresh.{new-version, new-valid, new-octets}
 use Rattle.salvage_promises.proofs.Fates.{fateOf, accounted}
@@ -37,14 +38,27 @@ accepted-taken x a =
     (ap₂ _&&_ (ap₂ _&&_ (le-leb 2 (length x) (a .size .0)) (le-leb (length x) 1794 (a .size .1))) (one-or-two (versionOf x) (a .version)))
     (le-leb (countOf x) 32 (a .count))
 
-taken-accepted : (x : List ℕ) → Taken x → Accepted x
-taken-accepted x t = record { size = t .long; version = known (versionOf x) (t .version); count = t .count }
+two-or-one : (v : ℕ) → (eqb v 1 || eqb v 2) ≡ true → (1 ≤ v) × (v ≤ 2)
+two-or-one zero e = let z : _≡_ {A = ℕ} 0 1 = cc in absurd (omega arith)
+two-or-one (suc zero) e = (omega arith, omega arith)
+two-or-one (suc (suc zero)) e = (omega arith, omega arith)
+two-or-one (suc (suc (suc n))) e =
+    let other : ℕ = suc (suc (suc n)) in
+    let none : (eqb other 1 || eqb other 2) ≡ false = rw (ne-eqb other 1 (omega arith), ne-eqb other 2 (omega arith)) in
+    let z : _≡_ {A = ℕ} 0 1 = cc in
+    absurd (omega arith)
+
+taken-accepted : (x : List ℕ) → salvageable x ≡ true → Accepted x
+unfolding salvageable
+taken-accepted x e =
+    let t : Taken x = taken x e in
+    record { size = t .long; version = two-or-one (versionOf x) (search (and-left, and-right) depth 9); count = t .count }
 
 not-taken : (x : List ℕ) → (Accepted x → ⊥) → salvageable x ≡ false
 not-taken x never = by-test (salvageable x) refl
   where
     by-test : (t : Bool) → salvageable x ≡ t → salvageable x ≡ false
-    by-test true e = absurd (never (taken-accepted x (taken x e)))
+    by-test true e = absurd (never (taken-accepted x e))
     by-test false e = e
 
 -- ---- the promise
