@@ -483,6 +483,55 @@ def everything_below(name, arrows):
     return below.union(*(everything_below(b, arrows) for b in below))
 
 
+# The programs of the ground and their libraries: where each stands in the picture, and what is said of it.
+GROUND = {
+    "writing": (610, 1, 100, FREE, "putting text"),
+    "salvage_entries": (24, 2, 200, FREE, "which are kept, their order"),
+    "salvage_image": (24, 3, 200, FREE, "the new image"),
+    "salvage_lines": (24, 4, 200, FREE, "dropped, moved"),
+    "salvage": (24, 5, 88, FREE, "program"),
+    "salvage_promises": (124, 5, 236, FREE, "theorems alone"),
+    "listing_text": (384, 3, 326, FREE, "the listing's lines"),
+    "listing": (384, 4, 326, FREE, "the program"),
+}
+
+
+def ground():
+    p = Picture("ground", "The crates of the ground's programs")
+    p.text(24, 26, p.title, 16, "start", "bold")
+    p.note(46, "Filled boxes stand in the picture of the module. An arrow that follows from others is left out.", 24)
+    high, pitch, most = 48, 76, 5
+    boxes = dict(GROUND)
+    boxes["octets"] = (24, 0, 686, FIXED, "lists of octets, numbers, copying, and their laws")
+    boxes["image"] = (24, 1, 560, NUMBER, "contents, the whole rule; with what it stands on")
+    boxes["association"] = (384, 2, 200, NUMBER, "numbers, search, entries")
+    boxes["promises"] = (240, 4, 120, FIXED, "with the module")
+    arrows = [
+        ("salvage", "salvage_lines", 68), ("salvage_promises", "salvage_lines", 174), ("salvage_promises", "promises", 300),
+        ("salvage_lines", "salvage_image", 124), ("salvage_image", "salvage_entries", 124), ("salvage_entries", "image", 124),
+        ("listing", "listing_text", 484), ("listing_text", "association", 484), ("listing_text", "writing", 680), ("association", "image", 484),
+        ("image", "octets", 304), ("writing", "octets", 660),
+    ]
+    needed = stands_on()
+    drawn = arrows + [("salvage_image", "writing", 210)]
+    for name in GROUND:
+        below = everything_below(name, drawn)
+        for module in sorted(needed, key=list(needed).index, reverse=True):
+            below |= needed[module] if module in below - set(GROUND) else set()
+        assert needed[name] <= below, f"an arrow is missing: {name}"
+
+    def top(row):
+        return 64 + pitch * (most - row)
+
+    for name, (x, row, width, fill, words) in boxes.items():
+        p.box(x, top(row), width, high, fill, [name, words], sizes=(14, 12.5))
+    for above, below, x in arrows:
+        p.arrow([(x, top(boxes[above][1]) + high), (x, top(boxes[below][1]) - 1)])
+    bend = top(3) + high + 12
+    p.arrow([(210, bend - 12), (210, bend), (630, bend), (630, top(1) - 1)])
+    return p
+
+
 def layers():
     p = Picture("layers", "The crates: each stands on those that its arrows point to")
     p.text(24, 26, p.title, 16, "start", "bold")
@@ -512,28 +561,27 @@ def layers():
         "link": (24, 9, 566, DATA, "load, secure, check: judged, then carried out"),
         "promises": (24, 10, 270, FREE, "theorems alone"),
         "link_c": (320, 10, 270, FREE, "the C interface"),
-        "listing_text": (606, 6, 104, FREE, "the lines"),
-        "listing": (606, 7, 104, FREE, "the program"),
     }
     programs = {
         "link_cases": (7, "runs link"),
-        "listing_cases": (6, "runs listing_text"),
+        "listing_cases": (9, "runs listing_text"),
+        "salvage_cases": (8, "runs salvage's crates"),
         "cipher_vectors": (5, "runs cipher, cmac, gcm"),
         "cipher_bench": (4, "times cipher, cmac, gcm"),
         "frame_cases": (3, "runs frame, kinds"),
         "lines": (1, "lines of text for them"),
     }
     arrows = [
-        ("promises", "link", 159), ("link_c", "link", 455), ("listing", "listing_text", 658), ("link", "judging", 307), ("judging", "protection", 307),
+        ("promises", "link", 159), ("link_c", "link", 455), ("link", "judging", 307), ("judging", "protection", 307),
         ("protection", "services", 184), ("protection", "frame", 437), ("services", "cmac", 80), ("services", "gcm", 244),
-        ("listing_text", "association", 658), ("association", "image", 616), ("image", "bodies", 616), ("bodies", "kinds", 537),
+        ("association", "image", 616), ("image", "bodies", 616), ("bodies", "kinds", 537),
         ("bodies", "marks", 638), ("frame", "kinds", 437), ("kinds", "headers", 437), ("gcm", "gctr", 194), ("gcm", "ghash", 298),
         ("gctr", "cipher", 170), ("gctr", "block", 219), ("ghash", "block", 298), ("cmac", "cipher", 80), ("cipher", "key_schedule", 80),
         ("key_schedule", "substitution", 80), ("substitution", "octets", 80), ("block", "octets", 244), ("headers", "octets", 437),
         ("marks", "octets", 638), ("check_field", "octets", 546),
     ]
     needed = stands_on()
-    assert set(needed) == set(boxes) | set(programs), "crates.txt has other crates"
+    assert set(needed) == set(boxes) | set(programs) | set(GROUND), "crates.txt has other crates"
     drawn = arrows + [("services", "association", 320), ("frame", "check_field", 490)]
     for name in boxes:
         assert needed[name] <= everything_below(name, drawn), f"an arrow is missing: {name}"
@@ -564,7 +612,7 @@ def layers():
 
 
 PICTURES = [tc_header, tc_segment_header, tm_header, aos_header, lambda: secured(1), lambda: secured(2), check_field, image, body]
-PICTURES += [packed_result, layers]
+PICTURES += [packed_result, layers, ground]
 
 
 def main(checking):

@@ -95,6 +95,14 @@ static bool body_obeys(const struct association *body)
         && body->mark < (1u << 26);
 }
 
+bool body_allowed(const uint8_t *body, unsigned version)
+{
+    struct association association;
+    struct cursor cursor = {body};
+    read_body(&cursor, version, &association);
+    return body_obeys(&association);
+}
+
 /* 'k entries of 4 octets: SPI (1 to 65,534, strictly rising) and the position of its body' */
 static bool read_contents(struct cursor *cursor, struct table *table)
 {

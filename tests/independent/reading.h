@@ -49,6 +49,9 @@ struct table {
 /* True where the image breaks no rule; the table then holds what it says. */
 bool read_image(const uint8_t *image, size_t length, struct table *table);
 
+/* Whether 52 octets are a body that breaks no rule of a version. */
+bool body_allowed(const uint8_t *body, unsigned version);
+
 /* The reverse: lays a table out, and gives the length of the image. Tests no rule, so that tests can break them. */
 size_t write_image(const struct table *table, uint8_t *image);
 
@@ -145,5 +148,18 @@ uint32_t reading_raise(uint8_t *image, size_t length, unsigned entry, uint32_t n
 /* 'The listing program': the text for an image, ended by a zero octet. */
 enum { LISTING_ROOM = 2048 };
 void listing_text(const uint8_t *image, size_t length, char text[LISTING_ROOM]);
+
+/* Document 02, request 12: what is made of a damaged image. */
+enum { SALVAGE_LINES_ROOM = 32 * 11 + 1, DROPPED = -1 };
+
+struct salvage {
+    bool is_refused;
+    uint8_t image[LARGEST_IMAGE];
+    size_t length;
+    int became[MOST_ENTRIES];        /* of each entry that is counted, its new index, or DROPPED */
+    char lines[SALVAGE_LINES_ROOM];  /* for standard error */
+};
+
+void salvage_of(const uint8_t *input, size_t length, struct salvage *salvage);
 
 #endif

@@ -40,14 +40,14 @@ pub fn spi_of(image: &[u8], index: u8) -> u16
     two_at(image, entry_place(index))
 }
 
-fn position_of(image: &[u8], index: u8) -> u16
+pub fn position_of(image: &[u8], index: u8) -> u16
     ensures { λ r. ⌜ r ≡ positionOf (now (image .entry)) index ⌝ }
 {
     two_at(image, entry_place(index) + 2)
 }
 
 // Where a body stands in an image of so many entries.
-fn body_place(layout: Layout, count: u8, index: u8) -> u16
+pub fn body_place(layout: Layout, count: u8, index: u8) -> u16
     requires { ⌜ Lawful layout ⌝ }
     ensures { λ r. ⌜ (r ≡ bodyPlace layout count index) × (r ≤ farthest) ⌝ }
 {

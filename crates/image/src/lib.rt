@@ -3,11 +3,13 @@
 mod image;
 
 pub use image::body_at;
+pub use image::body_place;
 pub use image::count_of;
 pub use image::image_ok;
 pub use image::key_of;
 pub use image::laid_out;
 pub use image::mark_at;
 pub use image::mark_in;
+pub use image::position_of;
 pub use image::spi_of;
 pub use image::version_of;

@@ -2,8 +2,8 @@
 use libc::STDIN_FILENO;
 use libc::STDOUT_FILENO;
 use listing_text::LONGEST;
-use listing_text::listing_in;
 use listing_text::write_listing;
+use writing::text_in;
 
 // One octet more than an image can have: of a longer input that many are read, and they are refused, as no image is that long.
 const MOST_READ: usize = 1795;
@@ -13,5 +13,5 @@ fn main() {
     let count = io::read_full(STDIN_FILENO, &mut image);
     let mut text = [0u8; LONGEST];
     let listed = write_listing(&image[..count], &mut text);
-    io::write_all(STDOUT_FILENO, listing_in(listed, &text));
+    io::write_all(STDOUT_FILENO, text_in(listed, &text));
 }

@@ -6,14 +6,14 @@ use lines::print;
 use lines::read_line;
 use lines::read_octets;
 use listing_text::LONGEST;
-use listing_text::listing_in;
 use listing_text::write_listing;
 use octets::octet_at;
+use writing::text_in;
 
 fn print_listing(image: &[u8]) {
     let mut text = [0u8; LONGEST];
     let listed = write_listing(image, &mut text);
-    print(listing_in(listed, &text));
+    print(text_in(listed, &text));
 }
 
 // Room for the octets that 33 entries would have, one entry more than an image may have.

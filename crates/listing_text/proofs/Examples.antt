@@ -12,7 +12,7 @@ use Rattle.bodies.specs.Body.{bodyIn, bodyOk}
 use Rattle.bodies.specs.Layout.{layoutOf}
 use Rattle.marks.specs.Gray.{decoded}
 use Rattle.image.specs.Image.{bodyAt, bodyOf, imageSize, laidOut, entryOk, validImage, markIn}
-use Rattle.listing_text.specs.Text.{ascii, digits, decimal}
+use Rattle.writing.specs.Text.{ascii, digits, decimal}
 use Rattle.listing_text.specs.Listing.{field, fields, next, line, lines, listing}
 
 -- version and count; SPI 9 and its body's position; the body up to the window, 100; mask, key and mark, all 0

@@ -14,10 +14,10 @@ use Rattle.image.specs.Image.{countOf, validImage}
 use Rattle.association.specs.Numbers.{greatest}
 use Rattle.image.proofs.ValidImages.{Valid, valid}
 use Rattle.listing_text.specs.Listing.{title, field, fields, next, line, lines, listing}
-use Rattle.listing_text.specs.Output.{listed, lengthOf}
-use Rattle.listing_text.proofs.Decimals.{digits-short}
+use Rattle.writing.specs.Output.{writtenTo, lengthOf}
+use Rattle.writing.proofs.Decimals.{digits-short}
 use Rattle.listing_text.proofs.Parts.{length-field, next-number, next-none, listing-valid, listing-refused}
-use Rattle.listing_text.proofs.Puts.{all-written}
+use Rattle.writing.proofs.Puts.{all-written}
 
 field-short : (k n : ℕ) → n < 10 ^ suc k → length (field n) ≤ k + 2
 field-short k n small = omega (arith, length-field n, digits-short k 10 n small)
@@ -71,7 +71,7 @@ longest image = by-test (validImage image) refl
 
 -- an output of that many octets holds, whatever the image, its listing and nothing else
 pub printed : (image out : List ℕ) → 1005 ≤ length out
-    → take (lengthOf (listed (listing image) out)) (fronted (listing image) out) ≡ listing image
+    → take (lengthOf (writtenTo (listing image) out)) (fronted (listing image) out) ≡ listing image
 printed image out room =
     let fits : length (listing image) ≤ length out = omega (arith, longest image) in
     rw (← all-written (listing image) out fits .0, ← all-written (listing image) out fits .1)

@@ -1,5 +1,3 @@
-pub mod Decimals
 pub mod Examples
 pub mod Lengths
 pub mod Parts
-pub mod Puts

@@ -8,7 +8,7 @@ use Rattle.association.specs.Association.{entryOf}
 use Rattle.image.specs.Image.{countOf, validImage}
 use Rattle.association.specs.Numbers.{greatest}
 use Rattle.association.specs.declared.entry.Entry.{Entry}
-use Rattle.listing_text.specs.Text.{ascii, decimal}
+use Rattle.writing.specs.Text.{ascii, decimal}
 
 abbrev pub title : List ℕ
 title = ascii "spi service kind direction state window next\n"

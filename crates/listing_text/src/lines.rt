@@ -1,12 +1,12 @@
 // Document 01, 'The listing program': the lines of a listing, the title and one for each entry, or the one of a refused image.
-use crate::output::put_octet;
-use crate::output::put_text;
-use crate::text::put_decimal;
-use crate::text::put_fields;
+use crate::fields::put_fields;
 use association::Entry;
 use association::entry_at;
 use image::image_ok;
 use octets::octet_at;
+use writing::put_decimal;
+use writing::put_octet;
+use writing::put_text;
 ghost use mathlib.Core.Path.{_≡_};
 ghost use mathlib.Core.Bool.{true};
 ghost use mathlib.Core.List.{_++_};
@@ -15,7 +15,7 @@ ghost use lib.ListN.{length};
 ghost use Rattle.image.specs.Image.{countOf, validImage};
 ghost use Rattle.listing_text.specs.Listing.{title, next, line, lines, listing};
 ghost use Rattle.listing_text.specs.Listing.{columns as Listing·columns};
-ghost use Rattle.listing_text.specs.Output.{Put};
+ghost use Rattle.writing.specs.Output.{Put};
 
 // Document 01, 'Managed numbers': the greatest that a number may be.
 const GREATEST: u64 = 4294967295;

@@ -90,7 +90,7 @@ version-ok (suc (suc (suc n))) h = absurd (omega arith)
 -- ---- a valid image obeys the rules
 
 module _ (image : List ℕ) (octets : Octets image) where
-  body-rules : (i : ℕ) → ValidBody (versionOf image) (bodyOf image i) → BodyRules image i
+  pub body-rules : (i : ℕ) → ValidBody (versionOf image) (bodyOf image i) → BodyRules image i
   unfolding markIn
   body-rules i b =
       let kinds = kind-at image i in
@@ -158,7 +158,7 @@ kind-ok version (suc (suc (suc (suc zero)))) body h s c m k =
     ap₂ _&&_ (ap₂ _&&_ (ap₂ _&&_ (le-leb _ _ s) c) (le-leb _ _ m)) refl
 kind-ok version (suc (suc (suc (suc (suc n))))) body h s c m k = absurd (omega arith)
 
-module _ (image : List ℕ) (octets : Octets image) (rules : ImageRules image) where
+module _ (image : List ℕ) (octets : Octets image) where
   module _ (i : ℕ) (b : BodyRules image i) where
     abbrev body : List ℕ
     body = bodyOf image i
@@ -177,7 +177,7 @@ module _ (image : List ℕ) (octets : Octets image) (rules : ImageRules image) w
         le-leb (channelOf body) (kindOf (kindIn body) .mostChannel)
         (rw (channel-at image i, ← limits .mostChannel, kind-at image i) (b .channel (sym (set-at image i) ∙ one))))
 
-    body-ok : bodyOk (versionOf image) body ≡ true
+    pub body-ok : bodyOk (versionOf image) body ≡ true
     unfolding bodyOk markIn
     body-ok =
         ap₂ _&&_
@@ -195,6 +195,7 @@ module _ (image : List ℕ) (octets : Octets image) (rules : ImageRules image) w
         (between 1 (windowOf body) 1024 (rw (window-at image i) (b .window))))
         (lt-ltb (markIn image i) (2 ^ 26) mark-fits)
 
+module _ (image : List ℕ) (octets : Octets image) (rules : ImageRules image) where
   before-below : (i : ℕ) → i < countOf image → spiBefore image i < spiOf image i
   before-below zero h = omega (arith, rules .spi 0 h .0)
   before-below (suc i) h = let here : suc i - 1 ≡ i = omega arith in rw (eqb·suc-zero i, here) (rules .rising i (suc i) (omega arith) h)
@@ -216,7 +217,7 @@ module _ (image : List ℕ) (octets : Octets image) (rules : ImageRules image) w
   pub rules-valid : validImage image ≡ true
   unfolding validImage
   rules-valid =
-      ap₂ _&&_ laid-ok (all-every (countOf image) _ (λ i h. ap₂ _&&_ (entry-ok i h) (body-ok i (rules .body i h))))
+      ap₂ _&&_ laid-ok (all-every (countOf image) _ (λ i h. ap₂ _&&_ (entry-ok i h) (body-ok image octets i (rules .body i h))))
 
 -- ---- agreement
 

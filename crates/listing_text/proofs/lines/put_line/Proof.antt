@@ -7,7 +7,7 @@ use lib.ListN.{length}
 use borrow.Author.Needs.{needs}
 use Rattle.listing_text.specs.Listing.{fields, next, line}
 use Rattle.listing_text.proofs.Parts.{length-line}
-use Rattle.listing_text.proofs.Puts.{put-then}
+use Rattle.writing.proofs.Puts.{put-then}
 use Rattle.listing_text.proofs.lines.put_line.Statement.{statement}
 use Rattle.listing_text.proofs.lines.put_line.Tie as tie
 

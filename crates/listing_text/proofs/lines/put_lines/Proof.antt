@@ -6,10 +6,10 @@ use native.Mathlib.Omega.{arith}
 use borrow.Author.Needs.{needs}
 use Rattle.image.specs.Image.{countOf}
 use Rattle.listing_text.specs.Listing.{lines}
-use Rattle.listing_text.specs.Output.{Put}
+use Rattle.writing.specs.Output.{Put}
 use Rattle.listing_text.proofs.Lengths.{line-fits}
 use Rattle.listing_text.proofs.Parts.{lines-none, lines-more}
-use Rattle.listing_text.proofs.Puts.{put-none, put-then}
+use Rattle.writing.proofs.Puts.{put-none, put-then}
 use Rattle.listing_text.proofs.lines.put_lines.Statement.{statement}
 use Rattle.listing_text.proofs.lines.put_lines.Tie as tie
 

@@ -1,0 +1,5 @@
+pub mod Gathering
+pub mod KeptLaws
+pub mod Members
+pub mod Ranks
+pub mod TestLaws

@@ -1,0 +1,2 @@
+pub mod KeptOf
+pub mod Salvage

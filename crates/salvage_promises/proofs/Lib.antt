@@ -1,0 +1,5 @@
+pub mod Afresh
+pub mod Again
+pub mod Fates
+pub mod Salvaging
+pub mod Untouched
