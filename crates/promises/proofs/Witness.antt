@@ -273,9 +273,9 @@ besides version channel kind direction =
     ++ replicate 32 0x07
     ++ bytes 4 0x00000000
 
--- that of case B, sending or receiving
+-- that of case B, sending or receiving, in version 2
 abbrev twoProjects : ℕ → List ℕ
-twoProjects direction = besides 1 5 1 direction
+twoProjects direction = besides 2 5 1 direction
 
 abbrev twoNumbers : List ℕ
 twoNumbers = 100 ∷ 63 ∷ replicate 30 0
@@ -286,7 +286,7 @@ standing image numbers o v a =
     let octets = octets-of image o in
     record { octets = octets; valid = rules-kept image octets v; agree = agreement image numbers octets a }
 
--- one project's image and two projects', sending and receiving
+-- one project's image, of version 1, and two projects', sending and receiving
 one-sends : Standing imageB (oneNumber 63)
 unfolding everything
 one-sends = standing imageB (oneNumber 63) refl refl refl
@@ -309,7 +309,7 @@ unfolding everything
 same-sending =
     isolation .sending imageB (oneNumber 63) (twoProjects 1) twoNumbers (saying 1) 9 frameC room room one-sends two-send refl
     (both 0 1 (serving imageB 1 (saying 1) 9 frameC 0 (lit< tt) refl) (serving (twoProjects 1) 1 (saying 1) 9 frameC 1 (lit< tt) refl)
-    refl refl refl)
+    refl refl)
 
 pub same-check : let frame = out 1 5 1 5 1 (saying 1) frameC in
     SameAnswer (checked (receiver 100 0) (oneNumber 63) (saying 1) frame room) (checked (twoProjects 2) twoNumbers (saying 1) frame room)
@@ -319,7 +319,7 @@ same-check =
     let spi = spiOn (saying 1) frame in
     isolation .checking (receiver 100 0) (oneNumber 63) (twoProjects 2) twoNumbers (saying 1) frame room room one-receives two-receive refl
     (both 0 1 (serving (receiver 100 0) 2 (saying 1) spi frame 0 (lit< tt) refl) (serving (twoProjects 2) 2 (saying 1) spi frame 1 (lit< tt) refl)
-    refl refl refl)
+    refl refl)
 
 -- in version 2: a sending on channel 1 of the set of channels 1 and 5
 set-sends : Standing (imageWith 2 0x22 1 3 1 100 0) (oneNumber 63)
@@ -338,7 +338,7 @@ same-sending-by-sets =
     let two = besides 2 0x22 3 1 in
     isolation .sending one (oneNumber 63) two twoNumbers (saying 3) 9 otherFrame room room set-sends set-sends-besides refl
     (both 0 1 (serving one 1 (saying 3) 9 otherFrame 0 (lit< tt) refl) (serving two 1 (saying 3) 9 otherFrame 1 (lit< tt) refl)
-    refl refl refl)
+    refl refl)
 
 -- a sending under SPI 8 and a check at the ends that send: neither image has an entry for them
 pub neither-sends : SameAnswer (secured imageB (oneNumber 63) (saying 1) 8 frameC room) (secured (twoProjects 1) twoNumbers (saying 1) 8 frameC room)
