@@ -28,7 +28,7 @@ use Rattle.promises.specs.RoundTrip.{Released}
 use Rattle.promises.specs.Runs.{Shown, load, send, check, sendCut, after, ran, trace, shows, restart, sent, released, sentIn, begun}
 use Rattle.promises.specs.Runs.{shownOf}
 use Rattle.promises.specs.Upgrade.{Upgraded}
-use Rattle.promises.specs.Wear.{makes, makesUnder, accepts, storesIn, loadsIn, storesOf, framesOf, loadsOf}
+use Rattle.promises.specs.Wear.{makes, makesUnder, loadsBy, storesDuring, loadsDuring, storesOver, framesOver, loadsOver}
 use Rattle.promises.proofs.Answers.{nobody}
 use Rattle.promises.proofs.Computing.{everything}
 use Rattle.promises.proofs.Isolation.{isolation}
@@ -220,15 +220,15 @@ run-sends-by-sets = (refl, refl)
 
 -- the bound on stores is met: by a run of two frames, three loads and a cut, which makes a store at each
 pub run-wears : let steps = send (saying 1) 9 frameC room ∷ load [] ∷ sendCut (saying 1) 9 frameC room 1 [] ∷ send (saying 1) 9 frameC room ∷ [] in
-    (storesOf 0 imageB [] steps ≡ 3) × (framesOf 0 imageB [] steps ≡ 2) × (loadsOf imageB [] steps ≡ 3)
-unfolding everything trace shows after makes makesUnder accepts storesIn loadsIn sentIn
+    (storesOver 0 imageB [] steps ≡ 3) × (framesOver 0 imageB [] steps ≡ 2) × (loadsOver imageB [] steps ≡ 3)
+unfolding everything trace shows after makes makesUnder loadsBy storesDuring loadsDuring sentIn
 run-wears = (refl, refl, refl)
 
 -- and by 64 frames after one load, and one more sending that is cut after its store
 pub run-wears-on : let steps = replicate 64 (send (saying 1) 9 frameC room) in
     let next = makesUnder 0 (ran (begun imageB) (load [] ∷ steps)) (sendCut (saying 1) 9 frameC room 1 []) in
-    (storesOf 0 imageB [] steps + length next ≡ 2) × (framesOf 0 imageB [] steps ≡ 64) × (loadsOf imageB [] steps ≡ 1)
-unfolding everything trace shows after makes makesUnder accepts storesIn loadsIn sentIn ran
+    (storesOver 0 imageB [] steps + length next ≡ 2) × (framesOver 0 imageB [] steps ≡ 64) × (loadsOver imageB [] steps ≡ 1)
+unfolding everything trace shows after makes makesUnder loadsBy storesDuring loadsDuring sentIn ran
 run-wears-on = (refl, refl, refl)
 
 -- the frame of the first sending, released at the other end
