@@ -18,8 +18,7 @@ use Rattle.marks.specs.Gray.{codeLength, gray}
 use Rattle.marks.specs.Stores.{flippedOctet, codeOctet, storeOf, raisingStore, steps, stored}
 use Rattle.marks.specs.declared.plans.Store.{Store}
 use Rattle.marks.proofs.GrayCode.{gray-lt, gray-octet, flipped-lt}
-use Rattle.octets.proofs.Outside.{Changed}
-use Rattle.marks.proofs.Made.{Inside, put, stored-none, stored-more, steps-changed}
+use Rattle.marks.proofs.Made.{Inside, put, stored-none, stored-more}
 
 -- the flipped bit stands in one of the four octets
 pub octet-of-four : (m : ℕ) → m + 1 < 2 ^ 32 → flippedOctet m < 4
@@ -112,7 +111,3 @@ module _ (image : List ℕ) (at m : ℕ) where
   raises-marked n held h =
       kept (λ i s. Marked s at (m + i)) n (rw add-zero held)
       (λ i l before. rw (← add-assoc m i 1) (put-marked (raised i) at (m + i) before (omega arith)))
-
-  -- every octet outside the four is as before
-  pub raises-changed : (n : ℕ) → n ≤ 2 ^ 32 - 1 - m → Changed image at codeLength (raised n)
-  raises-changed n h = steps-changed (raisingStore at m) image at codeLength n (λ i l. store-inside at (m + i) (omega arith))

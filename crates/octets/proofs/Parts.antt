@@ -52,10 +52,6 @@ pub octet-part : (at n : ℕ) (s : List ℕ) (i : ℕ) → i < n → octet (part
 unfolding part
 octet-part at n s i h = octet-tab n _ i h
 
-pub octets-part : (at n : ℕ) (s : List ℕ) → Octets s → Octets (part at n s)
-unfolding part
-octets-part at n s hs = octets-tab n _ (λ i h. hs (at + i))
-
 -- two lists whose octets agree there
 pub part-same : (at n : ℕ) (s t : List ℕ) → ((i : ℕ) → i < n → octet s (at + i) ≡ octet t (at + i)) → part at n s ≡ part at n t
 unfolding part

@@ -2,7 +2,7 @@
 -- answer is given; runs send and release, and one meets the bound on stores; the same with TM associations of two channels, in version 2;
 -- and two images of different projects share an entry, or have none for a frame. All of it by computing.
 -- Assumes nothing.
-use Prim.Native.Nat.{ℕ, _+_, _<_}
+use Prim.Native.Nat.{ℕ, _+_}
 use mathlib.Core.Path.{_≡_, refl, _∙_}
 use mathlib.Core.Bool.{Bool, true, false, _&&_}
 use mathlib.Core.List.{List, [], _∷_, _++_}
