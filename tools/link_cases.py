@@ -9,11 +9,8 @@ AES is OpenSSL's. Each call below states the answer that the paper gives it, and
 import argparse
 import os
 import random
+import sys
 from dataclasses import dataclass, replace
-
-from cryptography.hazmat.primitives.ciphers.aead import AESGCM
-from cryptography.hazmat.primitives.ciphers.algorithms import AES
-from cryptography.hazmat.primitives.cmac import CMAC
 
 MOST = 2**32 - 1
 HEADER = {1: 5, 2: 6, 3: 6, 4: 6}
@@ -919,4 +916,10 @@ def main():
 
 
 argparse.ArgumentParser(description=__doc__, formatter_class=argparse.RawDescriptionHelpFormatter).parse_args()
+try:
+    from cryptography.hazmat.primitives.ciphers.aead import AESGCM
+    from cryptography.hazmat.primitives.ciphers.algorithms import AES
+    from cryptography.hazmat.primitives.cmac import CMAC
+except ImportError:
+    sys.exit("tools/link_cases.py: the Python package `cryptography` is missing: pip install cryptography")
 main()
