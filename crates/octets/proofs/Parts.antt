@@ -7,8 +7,7 @@ use native.Mathlib.Nat.{add-assoc, add-zero, add-suc, le-refl}
 use native.Mathlib.Omega.{arith}
 use lib.ListN.{length, set, take, drop, length-drop}
 use lib.Seq.{getD-append-add, take-suc, take-length, getD-drop, set-at, append-snoc}
-use Rattle.octets.specs.Lists.{octet, tab, part, Octets}
-use Rattle.octets.proofs.Bounds.{octets-tab}
+use Rattle.octets.specs.Lists.{octet, tab, part}
 use Rattle.octets.proofs.Rules.{length-tab, tab-ext, octet-tab}
 
 -- past the first list, an octet is one of the second
