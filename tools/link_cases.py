@@ -9,12 +9,10 @@ AES is OpenSSL's. Each call below states the answer that the paper gives it, and
 import argparse
 import os
 import random
+import sys
 from dataclasses import dataclass, replace
 
 from check_field import check_field
-from cryptography.hazmat.primitives.ciphers.aead import AESGCM
-from cryptography.hazmat.primitives.ciphers.algorithms import AES
-from cryptography.hazmat.primitives.cmac import CMAC
 
 MOST = 2**32 - 1
 HEADER = {1: 5, 2: 6, 3: 6, 4: 6}
@@ -1122,4 +1120,10 @@ def main():
 
 
 argparse.ArgumentParser(description=__doc__, formatter_class=argparse.RawDescriptionHelpFormatter).parse_args()
+try:
+    from cryptography.hazmat.primitives.ciphers.aead import AESGCM
+    from cryptography.hazmat.primitives.ciphers.algorithms import AES
+    from cryptography.hazmat.primitives.cmac import CMAC
+except ImportError:
+    sys.exit("tools/link_cases.py: the Python package `cryptography` is missing: pip install cryptography")
 main()

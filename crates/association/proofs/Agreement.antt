@@ -1,24 +1,24 @@
--- Document 01, 'Managed numbers': numbers that agree with the marks still do after a call. An accepted number lies at most 1,024 above the
--- last, so it asks for at most 16 stores; and once all of them are made, the entry's mark is the new number's.
+-- Document 01, 'Managed numbers': numbers that agree with the marks still do after a call: once all its stores are made, the entry's mark is
+-- the new number's.
 -- Assumes nothing.
-use mathlib.Core.Path.{_≡_, refl, sym, ap, _∙_}
-use mathlib.Core.Bool.{Bool, true, false}
+use mathlib.Core.Path.{_≡_, sym, ap, _∙_}
+use mathlib.Core.Bool.{true}
 use mathlib.Core.List.{List}
 use Prim.Native.Nat.{ℕ, _+_, _-_, _/_, _≤_, _<_, min}
 use native.Mathlib.Decide.{ℕ-discrete}
 use native.Mathlib.Omega.{arith}
-use borrow.Author.Tests.{leb-true, leb-false, ltb-true, le-leb, lt-ltb}
+use borrow.Author.Tests.{leb-true, ltb-true}
 use lib.ListN.{length, set}
 use lib.Seq.{getD-set-same, getD-set-other}
 use Rattle.octets.specs.Lists.{Octets}
 use Rattle.octets.proofs.Alls.{and-left, and-right}
 use Rattle.image.specs.Image.{countOf, validImage}
 use Rattle.image.specs.Image.{markIn}
-use Rattle.association.specs.Numbers.{greatest, numberOf, agrees, accepts, spent}
-use Rattle.association.specs.Stores.{storesMade, afterStores}
+use Rattle.association.specs.Numbers.{greatest, numberOf, agrees, accepts}
+use Rattle.association.specs.Stores.{afterStores}
 use Rattle.image.proofs.ValidImages.{valid}
 use Rattle.association.proofs.LoadedNumbers.{agreed, agreeing}
-use Rattle.association.proofs.AfterStores.{hasEntry, made-some, made-none, Raised, raised}
+use Rattle.association.proofs.AfterStores.{Raised, raised}
 
 -- ---- which numbers are accepted
 
@@ -35,29 +35,9 @@ accepted last window n e =
       fits = leb-true n greatest (search (and-left, and-right));
     }
 
--- sending uses the next number, which checking would accept
-pub next-accepted : (last window : ℕ) → spent last ≡ false → 1 ≤ window → accepts last window (last + 1) ≡ true
-next-accepted last window e w =
-    let more : last < greatest = leb-false greatest last e in
-    rw (lt-ltb last (last + 1) (omega arith), le-leb (last + 1) (last + window) (omega arith), le-leb (last + 1) greatest (omega arith))
-
 module _ (image last : List ℕ) (i n : ℕ) (agree : agrees image last ≡ true) (listed : i < countOf image) where
   mark-now : numberOf last i / 64 ≡ markIn image i
   mark-now = agreed image last agree i listed
-
-  -- ---- at most 16 stores
-
-  pub stores-most : (window : ℕ) → window ≤ 1024 → accepts (numberOf last i) window n ≡ true → n / 64 - markIn image i ≤ 16
-  stores-most window most e =
-      let a : Accepted (numberOf last i) window n = accepted (numberOf last i) window n e in
-      omega (arith, mark-now)
-
-  pub made-most : (window : ℕ) → window ≤ 1024 → accepts (numberOf last i) window n ≡ true → (j : ℕ) → storesMade image i n j ≤ 16
-  made-most window most e j = by-entry (hasEntry image i) refl
-    where
-      by-entry : (t : Bool) → hasEntry image i ≡ t → storesMade image i n j ≤ 16
-      by-entry true h = omega (arith, made-some image i n j h, stores-most window most e)
-      by-entry false h = omega (arith, made-none image i n j h)
 
   -- ---- after all stores
 

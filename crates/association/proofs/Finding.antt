@@ -1,5 +1,5 @@
 -- Document 01, 'What comes back', answer 4: the search ends at the first entry that matches. In a valid image no other entry has its SPI,
--- so it is the only one that matches; and the stores of a call change nothing that the search reads.
+-- so it is the only one that matches.
 -- Assumes nothing.
 use mathlib.Core.Path.{_≡_, refl, sym, ap, _∙_}
 use mathlib.Core.Bool.{Bool, true, false, cond}
@@ -9,20 +9,13 @@ use native.Mathlib.Decide.{ℕ-discrete}
 use native.Mathlib.Omega.{arith}
 use borrow.Author.Tests.{eqb-true}
 use lib.Dec.{eqb}
-use Rattle.octets.proofs.Alls.{and-left, and-right}
-use Rattle.image.specs.Image.{versionOf, countOf, spiOf, bodyOf, markAt}
-use Rattle.association.specs.Numbers.{greatest}
-use Rattle.association.specs.Search.{bodyServes, matches, firstFrom, entryFor}
-use Rattle.association.specs.Stores.{afterStores}
+use Rattle.octets.proofs.Alls.{and-left}
+use Rattle.image.specs.Image.{countOf, spiOf}
+use Rattle.association.specs.Search.{matches, firstFrom, entryFor}
 use Rattle.association.specs.declared.search.Found.{Found}
 use Rattle.association.specs.declared.search.Found.the-variants as found
 use Rattle.association.specs.declared.search.Wanted.{Wanted}
 use Rattle.image.proofs.ValidImages.{Valid, spi-once}
-use Rattle.octets.proofs.Outside.{Changed}
-use Rattle.marks.specs.Gray.{codeLength}
-use Rattle.bodies.proofs.SameFields.{SameFields}
-use Rattle.image.proofs.KeptParts.{kept-version, kept-count, kept-spi, mark-within, kept-fields}
-use Rattle.association.proofs.AfterStores.{mark-only}
 
 -- ---- the first number at which a test passes
 
@@ -68,14 +61,6 @@ first-nothing (suc n) i test e = by-test (test i) refl e (first-nothing n (i + 1
     by-test true t here later = let z : _≡_ {A = ℕ} 0 1 = cc in absurd (omega arith)
     by-test false t here later = λ p l h. fails-from i (i + 1 + n) test t (later here) p l (omega arith)
 
--- tests that agree there find the same
-pub first-same : (n i : ℕ) (test other : ℕ → Bool) → ((p : ℕ) → i ≤ p → p < i + n → other p ≡ test p)
-    → firstFrom i n other ≡ firstFrom i n test
-unfolding firstFrom
-first-same zero i test other h = refl
-first-same (suc n) i test other h =
-    cc (h i (omega arith) (omega arith), first-same n (i + 1) test other (λ p l m. h p (omega arith) (omega arith)))
-
 -- a search of the numbers from i to k, one at a time
 module _ (k i : ℕ) (test : ℕ → Bool) where
   pub first-here : i < k → test i ≡ true → firstFrom i (k - i) test ≡ found.At i
@@ -106,10 +91,6 @@ pub matched-spi : (image : List ℕ) (w : Wanted) (i : ℕ) → matches image w 
 unfolding matches
 matched-spi image w i e = eqb-true (spiOf image i) (w .spi) (and-left (eqb (spiOf image i) (w .spi)) _ e)
 
-pub matched-body : (image : List ℕ) (w : Wanted) (i : ℕ) → matches image w i ≡ true → bodyServes (versionOf image) (bodyOf image i) w ≡ true
-unfolding matches
-matched-body image w i e = and-right (eqb (spiOf image i) (w .spi)) (bodyServes (versionOf image) (bodyOf image i) w) e
-
 -- in a valid image no other entry matches, so the one that does is found
 pub matched-once : (image : List ℕ) → Valid image → (w : Wanted) (i j : ℕ) → i < countOf image → j < countOf image
     → matches image w i ≡ true → matches image w j ≡ true → i ≡ j
@@ -127,31 +108,3 @@ found-matching image v w i h m = by-answer (entryFor image w) refl
         let none : matches image w i ≡ false = found-nothing image w e i h in
         let z : _≡_ {A = ℕ} 0 1 = cc in
         absurd (omega arith)
-
--- ---- after the stores of a call
-
--- bodies with the same fields serve alike
-pub same-serves : (version : ℕ) (body other : List ℕ) → SameFields body other
-    → (w : Wanted) → bodyServes version other w ≡ bodyServes version body w
-unfolding bodyServes
-same-serves version body other f w = cc
-
--- what the search tests, where only a mark differs
-pub kept-matches : (image : List ℕ) (i : ℕ) (after : List ℕ) → i < countOf image → Changed image (markAt image i) codeLength after
-    → (w : Wanted) (j : ℕ) → j < countOf image → matches after w j ≡ matches image w j
-unfolding matches
-kept-matches image i after listed only w j h =
-    let within = mark-within image i after listed only in
-    cc (
-      kept-version within,
-      kept-spi within j h,
-      same-serves (versionOf image) (bodyOf image j) (bodyOf after j) (kept-fields image i after listed only j) w,
-    )
-
-pub found-after : (image : List ℕ) (i n j : ℕ) → i < countOf image → n ≤ greatest → (w : Wanted) → entryFor (afterStores image i n j) w ≡ entryFor image w
-unfolding entryFor
-found-after image i n j listed small w =
-    let after : List ℕ = afterStores image i n j in
-    let only : Changed image (markAt image i) codeLength after = mark-only image i n j small in
-    ap (λ (k : ℕ). firstFrom 0 k (matches after w)) (kept-count (mark-within image i after listed only))
-    ∙ first-same (countOf image) 0 (matches image w) (matches after w) (λ p l h. kept-matches image i after listed only w p (omega arith))

@@ -17,10 +17,7 @@ use Rattle.association.specs.Numbers.{greatest, numberOf, loadedNumber, 
 
 -- ---- numbers and marks
 
--- the number of an allowed mark is one that there is, and back
-pub loaded-fits : (m : ℕ) → m < 2 ^ 26 → loadedNumber m ≤ greatest
-loaded-fits m h = omega arith
-
+-- the mark of a number that there is, and back
 pub mark-fits : (n : ℕ) → n ≤ greatest → n / 64 < 2 ^ 26
 mark-fits n h = omega arith
 

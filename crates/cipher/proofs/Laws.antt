@@ -1,32 +1,19 @@
--- What the layers above rest on: AES-256 under an expanded key, the length of a block, and that its numbers are octets.
+-- What the layers above rest on: the length of an enciphered block, and that its numbers are octets.
 -- Assumes nothing.
-use mathlib.Core.Path.{_≡_, _∙_, sym, ap}
+use mathlib.Core.Path.{_≡_, _∙_, ap}
 use mathlib.Core.List.{List}
 use Prim.Native.Nat.{ℕ}
 use lib.ListN.{length}
 use Rattle.octets.specs.Lists.{Octets}
 use Rattle.octets.proofs.Rules.{length-tab}
-use Rattle.key_schedule.specs.KeyExpansion.{keyExpansion}
-use Rattle.key_schedule.proofs.Laws.{octets-keyExpansion}
 use Rattle.cipher.specs.AddRoundKey.{addRoundKey}
-use Rattle.cipher.specs.Cipher.{cipher, aes256}
-use Rattle.cipher.specs.Cipher.Opened.{cipher-is, aes256-is}
+use Rattle.cipher.specs.Cipher.{cipher}
+use Rattle.cipher.specs.Cipher.Opened.{cipher-is}
 use Rattle.cipher.proofs.Small.{octets-subBytes, octets-shiftRows, octets-addRoundKey}
 
--- a key is expanded once, for any number of blocks
-pub under-expanded : (key block : List ℕ) → cipher (keyExpansion key) block ≡ aes256 key block
-under-expanded key block = sym (aes256-is key block)
-
--- under any expansion, and under a key
 pub length-cipher : (w block : List ℕ) → length (cipher w block) ≡ 16
 unfolding addRoundKey
 length-cipher w block = ap length (cipher-is w block) ∙ length-tab 16 _
 
 pub octets-cipher : (w block : List ℕ) → Octets w → Octets (cipher w block)
 octets-cipher w block hw = rw cipher-is (octets-addRoundKey w 14 _ hw (octets-shiftRows _ (octets-subBytes _)))
-
-pub length-aes256 : (key block : List ℕ) → length (aes256 key block) ≡ 16
-length-aes256 key block = ap length (aes256-is key block) ∙ length-cipher (keyExpansion key) block
-
-pub octets-aes256 : (key block : List ℕ) → Octets key → Octets (aes256 key block)
-octets-aes256 key block hk = rw aes256-is (octets-cipher (keyExpansion key) block (octets-keyExpansion key hk))

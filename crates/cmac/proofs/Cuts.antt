@@ -14,7 +14,7 @@ use Rattle.octets.specs.Xor.{xors}
 use Rattle.octets.proofs.Rules.{length-tab, tab-ext}
 use Rattle.octets.proofs.Parts.{tab-part, set-tab}
 use Rattle.cmac.specs.Subkeys.{zeros}
-use Rattle.cmac.specs.Mac.{blockCount, part, padded, lastBlock, block}
+use Rattle.cmac.specs.Mac.{blockCount, partOf, padded, lastBlock, block}
 
 by-test : (n : ℕ) (t : Bool) → eqb n 0 ≡ t → cond t 1 ((n + 15) / 16) ≡ (n - 1) / 16 + 1
 by-test n true e = omega (arith, eqb-true n 0 e)
@@ -32,15 +32,15 @@ abbrev pub sixteen : List ℕ → ℕ → List ℕ
 sixteen m i = tab 16 (λ j. octet m (16 * i + j))
 
 module _ (m : List ℕ) (i : ℕ) where
-  complete : 16 * i + 16 ≤ length m → sixteen m i ≡ part m (i + 1)
-  unfolding part
+  complete : 16 * i + 16 ≤ length m → sixteen m i ≡ partOf m (i + 1)
+  unfolding partOf
   complete h =
       let e : i + 1 - 1 ≡ i = omega arith in
       rw e (tab-part 16 (16 * i) m h)
 
   module _ (r : ℕ) (few : r < 16) (ends : 16 * i + r ≡ length m) where
-    front : tab r (λ j. octet m (16 * i + j)) ≡ part m (i + 1)
-    unfolding part
+    front : tab r (λ j. octet m (16 * i + j)) ≡ partOf m (i + 1)
+    unfolding partOf
     front =
         let e : i + 1 - 1 ≡ i = omega arith in
         let l : length (drop (16 * i) m) ≡ r = simp length-drop (omega arith) in
@@ -48,13 +48,13 @@ module _ (m : List ℕ) (i : ℕ) where
         (tab-part r (16 * i) m (omega arith) ∙ take-all r (drop (16 * i) m) (omega arith)
         ∙ sym (take-all 16 (drop (16 * i) m) (omega arith)))
 
-    long : length (part m (i + 1)) ≡ r
+    long : length (partOf m (i + 1)) ≡ r
     long = ap length (sym front) ∙ length-tab r _
 
     back : tab (15 - r) (λ j. octet m (16 * i + (suc r + j))) ≡ zeros (15 - r)
     back = tab-ext (15 - r) (λ j k. List·getD-eq-default m 0 (omega arith))
 
-    filled : set (sixteen m i) r 0x80 ≡ padded (part m (i + 1))
+    filled : set (sixteen m i) r 0x80 ≡ padded (partOf m (i + 1))
     unfolding padded
     filled =
         let e : suc r + (15 - r) ≡ 16 = omega arith in
@@ -75,13 +75,13 @@ module _ (m : List ℕ) (i : ℕ) where
       pub whole-block : length m ≡ 16 * i + 16 → xors 16 first (sixteen m i) ≡ block first second m (i + 1)
       unfolding block lastBlock
       whole-block h =
-          let e : sixteen m i ≡ part m (i + 1) = complete (omega arith) in
-          let l : length (part m (i + 1)) ≡ 16 = ap length (sym e) ∙ length-tab 16 _ in
+          let e : sixteen m i ≡ partOf m (i + 1) = complete (omega arith) in
+          let l : length (partOf m (i + 1)) ≡ 16 = ap length (sym e) ∙ length-tab 16 _ in
           simp (is-last (omega arith), eq-eqb _ _ l) (ap (xors 16 first) e)
 
       -- the last block, if it is short
       pub short-block : (r : ℕ) → r < 16 → 16 * i + r ≡ length m → xors 16 second (set (sixteen m i) r 0x80) ≡ block first second m (i + 1)
       unfolding block lastBlock
       short-block r few ends =
-          let n : length (part m (i + 1)) ≡ 16 → ⊥ = λ e. omega (arith, long r few ends) in
+          let n : length (partOf m (i + 1)) ≡ 16 → ⊥ = λ e. omega (arith, long r few ends) in
           simp (is-last (omega arith), ne-eqb _ _ n) (ap (xors 16 second) (filled r few ends))

@@ -19,8 +19,8 @@ unfoldable pub blockCount : ℕ → ℕ
 blockCount octets = cond (eqb octets 0) 1 ((octets + 15) / 16)
 
 -- step 3: the blocks that M is cut into, counted from 1: M_1 .. M_(n-1), which are complete, and M_n*, which may be short or empty
-unfoldable pub part : List ℕ → ℕ → List ℕ
-part m i = take 16 (drop (16 * (i - 1)) m)
+unfoldable pub partOf : List ℕ → ℕ → List ℕ
+partOf m i = take 16 (drop (16 * (i - 1)) m)
 
 -- a short block filled: its octets, a bit 1, and bits 0 to the end of the block, M_n* || 10^j
 unfoldable pub padded : List ℕ → List ℕ
@@ -32,7 +32,7 @@ lastBlock first second rest = cond (eqb (length rest) 16) (xors 16 first rest) (
 
 -- M_i, for i from 1 to n, from the subkeys and M
 unfoldable pub block : List ℕ → List ℕ → List ℕ → ℕ → List ℕ
-block first second m i = cond (eqb i (blockCount (length m))) (lastBlock first second (part m i)) (part m i)
+block first second m i = cond (eqb i (blockCount (length m))) (lastBlock first second (partOf m i)) (partOf m i)
 
 -- step 1, the subkeys; steps 5 and 6: C_0 = 0^128, and C_i = CIPH_K(C_(i-1) xor M_i)
 unfoldable pub chain : List ℕ → List ℕ → ℕ → List ℕ

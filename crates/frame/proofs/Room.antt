@@ -1,7 +1,7 @@
 -- Room and length, over every kind: what obeying a kind gives, and that the parts of a clear and of a secured frame lie end to end, have their
 -- lengths and make up the frame.
 -- Assumes nothing.
-use Prim.Native.Nat.{ℕ, _+_, _-_, _≤_, _<_}
+use Prim.Native.Nat.{ℕ, _+_, _≤_, _<_}
 use mathlib.Core.Path.{_≡_, sym, ap, _∙_}
 use mathlib.Core.List.{List, _++_}
 use mathlib.Core.Bool.{Bool, true, false, _&&_}

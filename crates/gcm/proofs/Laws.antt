@@ -24,7 +24,7 @@ use Rattle.gcm.specs.Encryption.{j0, ciphertextUnder, ciphertext, authen
 use Rattle.gcm.specs.Encryption.Opened.{ciphertext-is, tag-is}
 use Rattle.gcm.specs.Decryption.{plaintextUnder, plaintext}
 use Rattle.gcm.specs.Decryption.Opened.{plaintext-is}
-use Rattle.gcm.specs.Calls.{call, withTag, sealedUnder, sealed, checkedUnder, decryptedUnder, decrypted, opened}
+use Rattle.gcm.specs.Calls.{call, withTag, sealedUnder, sealed, checkedUnder, decryptedUnder, opened}
 use Rattle.gcm.specs.declared.Answer.the-variants as answer
 use Rattle.gcm.specs.declared.Checked.the-variants as verdict
 use Rattle.gcm.specs.declared.Outcome.the-variants as outcome
@@ -121,11 +121,6 @@ module _ (w iv c out : List ℕ) where
   pub decryptedUnder-done : textTooLong c ≡ false → length c ≤ length out
       → decryptedUnder w iv c out ≡ call answer.Done (written (plaintextUnder w iv c) out)
   decryptedUnder-done e h = rw (e, le-ltb (length out) (length c) h)
-
-pub decrypted-done : (key iv c out : List ℕ) → textTooLong c ≡ false → length c ≤ length out
-    → decrypted key iv c out ≡ call answer.Done (written (plaintext key iv c) out)
-unfolding decrypted
-decrypted-done key iv c out e h = decryptedUnder-done (keyExpansion key) iv c out e h
 
 -- what `open` answers and leaves
 module _ (key iv a c t out : List ℕ) where

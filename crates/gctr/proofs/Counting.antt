@@ -96,9 +96,9 @@ pub record Front (f : ℕ → ℕ) (old out : List ℕ) (i : ℕ) : Type 0 where
   pub front : take i out ≡ tab i f
   pub rest : drop i out ≡ drop i old
 
-front-more : {f : ℕ → ℕ} {old out : List ℕ} {i : ℕ} → i < length old → Front f old out i → Front f old (set out i (f i)) (i + 1)
+front-next : {f : ℕ → ℕ} {old out : List ℕ} {i : ℕ} → i < length old → Front f old out i → Front f old (set out i (f i)) (i + 1)
 unfolding tab
-front-more {f} {old} {out} {i} h g =
+front-next {f} {old} {out} {i} h g =
     let l : i < length out = omega (arith, g .long) in
     record {
       long = length-set out i (f i) ∙ g .long;
@@ -133,7 +133,7 @@ module _ (w src old : List ℕ) (icb : ℕ) where
         record {
           counted = ec ∙ ap (λ (n : ℕ). counter n icb) next;
           enciphered = λ k. let e : i / 16 ≡ (i + 1) / 16 = omega arith in es ∙ ap (λ (n : ℕ). ciph w (counter n icb)) e;
-          output = rw o (front-more (omega arith) g);
+          output = rw o (front-next (omega arith) g);
         }
 
     -- at the first octet of a block

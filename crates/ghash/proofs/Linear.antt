@@ -14,7 +14,7 @@ use lib.Seq.{getD-set-other, getD-set-same}
 use Rattle.octets.specs.Xor.{_⊕_}
 use Rattle.octets.proofs.Tables.{every-at}
 use Rattle.octets.proofs.XorLaws.{xor-assoc, xor-half, xor-odd, xor-four, bit-scale}
-use Rattle.ghash.specs.Product.{R, nextV, rounds}
+use Rattle.ghash.specs.Product.{R, nextV, productRounds}
 use Rattle.ghash.specs.Table.{nexts, entry}
 
 next-xor : (a b : ℕ) → nextV (a ⊕ b) ≡ nextV a ⊕ nextV b
@@ -34,42 +34,42 @@ next-bit (suc zero) v h = ap nextV (one-mul v) ∙ sym (one-mul (nextV v))
 next-bit (suc (suc b)) v h = absurd (omega arith)
 
 -- Z only adds
-rounds-xor : (k x z w v : ℕ) → rounds k x (z ⊕ w) v ≡ z ⊕ rounds k x w v
-unfolding rounds
+rounds-xor : (k x z w v : ℕ) → productRounds k x (z ⊕ w) v ≡ z ⊕ productRounds k x w v
+unfolding productRounds
 rounds-xor zero x z w v = refl
 rounds-xor (suc k) x z w v =
-    ap (λ (n : ℕ). rounds k x n (nextV v)) (xor-assoc z w (x / 2 ^ k % 2 * v)) ∙ rounds-xor k x z (w ⊕ x / 2 ^ k % 2 * v) (nextV v)
+    ap (λ (n : ℕ). productRounds k x n (nextV v)) (xor-assoc z w (x / 2 ^ k % 2 * v)) ∙ rounds-xor k x z (w ⊕ x / 2 ^ k % 2 * v) (nextV v)
 
-rounds-from : (k x z v : ℕ) → rounds k x z v ≡ z ⊕ rounds k x 0 v
-rounds-from k x z v = ap (λ (n : ℕ). rounds k x n v) (sym (xor-zero-r z)) ∙ rounds-xor k x z 0 v
+rounds-from : (k x z v : ℕ) → productRounds k x z v ≡ z ⊕ productRounds k x 0 v
+rounds-from k x z v = ap (λ (n : ℕ). productRounds k x n v) (sym (xor-zero-r z)) ∙ rounds-xor k x z 0 v
 
 -- nextV goes through the rounds
-rounds-next : (k x z v : ℕ) → rounds k x (nextV z) (nextV v) ≡ nextV (rounds k x z v)
-unfolding rounds
+rounds-next : (k x z v : ℕ) → productRounds k x (nextV z) (nextV v) ≡ nextV (productRounds k x z v)
+unfolding productRounds
 rounds-next zero x z v = refl
 rounds-next (suc k) x z v =
-    ap (λ (n : ℕ). rounds k x n (nextV (nextV v)))
+    ap (λ (n : ℕ). productRounds k x n (nextV (nextV v)))
     (ap (λ (n : ℕ). nextV z ⊕ n) (sym (next-bit (x / 2 ^ k % 2) v (mod-lt (x / 2 ^ k) (lit< tt)))) ∙ sym (next-xor z (x / 2 ^ k % 2 * v)))
     ∙ rounds-next k x (z ⊕ x / 2 ^ k % 2 * v) (nextV v)
 
 -- Horner's rule: the highest of k + 1 bits, and the others one place on
-horner : (k x v : ℕ) → rounds (suc k) x 0 v ≡ x / 2 ^ k % 2 * v ⊕ nextV (rounds k x 0 v)
-unfolding rounds
+horner : (k x v : ℕ) → productRounds (suc k) x 0 v ≡ x / 2 ^ k % 2 * v ⊕ nextV (productRounds k x 0 v)
+unfolding productRounds
 horner k x v =
     rounds-from k x (x / 2 ^ k % 2 * v) (nextV v)
-    ∙ ap (λ (n : ℕ). x / 2 ^ k % 2 * v ⊕ n) (ap (λ (n : ℕ). rounds k x n (nextV v)) (sym next-zero) ∙ rounds-next k x 0 v)
+    ∙ ap (λ (n : ℕ). x / 2 ^ k % 2 * v ⊕ n) (ap (λ (n : ℕ). productRounds k x n (nextV v)) (sym next-zero) ∙ rounds-next k x 0 v)
 
 -- the same for j bits at a time
-horner-by : (j k x v : ℕ) → rounds (j + k) x 0 v ≡ rounds j (x / 2 ^ k) 0 v ⊕ nexts j (rounds k x 0 v)
-unfolding nexts rounds
-horner-by zero k x v = ap (λ (n : ℕ). rounds n x 0 v) (zero-add k)
+horner-by : (j k x v : ℕ) → productRounds (j + k) x 0 v ≡ productRounds j (x / 2 ^ k) 0 v ⊕ nexts j (productRounds k x 0 v)
+unfolding nexts productRounds
+horner-by zero k x v = ap (λ (n : ℕ). productRounds n x 0 v) (zero-add k)
 horner-by (suc j) k x v =
-    let low : ℕ = nexts j (rounds k x 0 v) in
-    ap (λ (n : ℕ). rounds n x 0 v) (suc-add j k)
+    let low : ℕ = nexts j (productRounds k x 0 v) in
+    ap (λ (n : ℕ). productRounds n x 0 v) (suc-add j k)
     ∙ horner (j + k) x v
     ∙ ap₂ (λ (d n : ℕ). d % 2 * v ⊕ nextV n) (ap (λ (e : ℕ). x / 2 ^ e) (add-comm j k) ∙ sym (shr-shr x k j)) (horner-by j k x v)
-    ∙ ap (λ (n : ℕ). x / 2 ^ k / 2 ^ j % 2 * v ⊕ n) (next-xor (rounds j (x / 2 ^ k) 0 v) low)
-    ∙ sym (xor-assoc (x / 2 ^ k / 2 ^ j % 2 * v) (nextV (rounds j (x / 2 ^ k) 0 v)) (nextV low))
+    ∙ ap (λ (n : ℕ). x / 2 ^ k / 2 ^ j % 2 * v ⊕ n) (next-xor (productRounds j (x / 2 ^ k) 0 v) low)
+    ∙ sym (xor-assoc (x / 2 ^ k / 2 ^ j % 2 * v) (nextV (productRounds j (x / 2 ^ k) 0 v)) (nextV low))
     ∙ ap (λ (n : ℕ). n ⊕ nextV low) (sym (horner j (x / 2 ^ k) v))
 
 -- the j rounds look at the j low bits alone
@@ -82,11 +82,11 @@ bit-mod x m k h =
     ∙ ap (λ (e : ℕ). x / 2 ^ k % 2 ^ e % 2) e₂
     ∙ mod-mod-pow (x / 2 ^ k) (m - k - 1) 1
 
-rounds-low : (j m x z v : ℕ) → j ≤ m → rounds j (x % 2 ^ m) z v ≡ rounds j x z v
-unfolding rounds
+rounds-low : (j m x z v : ℕ) → j ≤ m → productRounds j (x % 2 ^ m) z v ≡ productRounds j x z v
+unfolding productRounds
 rounds-low zero m x z v h = refl
 rounds-low (suc j) m x z v h =
-    ap (λ (b : ℕ). rounds j (x % 2 ^ m) (z ⊕ b * v) (nextV v)) (bit-mod x m j h)
+    ap (λ (b : ℕ). productRounds j (x % 2 ^ m) (z ⊕ b * v) (nextV v)) (bit-mod x m j h)
     ∙ rounds-low j m x (z ⊕ x / 2 ^ j % 2 * v) (nextV v) (omega arith)
 
 -- four next V's at once: what stays moves down four places, and the four bits that fall out come back
@@ -140,28 +140,28 @@ nexts-halves hi lo h =
     ∙ ap (λ (x : ℕ). (hi / 16 ⊕ back (lo % 16)) * 2 ^ 64 + x) (xor-zero-r down))
 
 -- four bits n more: their entry e, and four next V's of what the bits below gave
-pub rounds-four : (k x v n e s z z′ : ℕ) → z ≡ rounds k x 0 v → n ≡ x / 2 ^ k % 16 → e ≡ rounds 4 n 0 v → s ≡ nexts 4 z → z′ ≡ e ⊕ s
-    → z′ ≡ rounds (k + 4) x 0 v
+pub rounds-four : (k x v n e s z z′ : ℕ) → z ≡ productRounds k x 0 v → n ≡ x / 2 ^ k % 16 → e ≡ productRounds 4 n 0 v → s ≡ nexts 4 z → z′ ≡ e ⊕ s
+    → z′ ≡ productRounds (k + 4) x 0 v
 rounds-four k x v n e s z z′ ez en ee es ez′ =
     ez′
-    ∙ ap₂ _⊕_ (ee ∙ ap (λ (m : ℕ). rounds 4 m 0 v) en ∙ rounds-low 4 4 (x / 2 ^ k) 0 v (omega arith)) (es ∙ ap (nexts 4) ez)
+    ∙ ap₂ _⊕_ (ee ∙ ap (λ (m : ℕ). productRounds 4 m 0 v) en ∙ rounds-low 4 4 (x / 2 ^ k) 0 v (omega arith)) (es ∙ ap (nexts 4) ez)
     ∙ sym (horner-by 4 k x v)
-    ∙ ap (λ (j : ℕ). rounds j x 0 v) (add-comm 4 k)
+    ∙ ap (λ (j : ℕ). productRounds j x 0 v) (add-comm 4 k)
 
 -- one round, counted down: the bit, V or 0, the sum, the next V
-rounds-step : (k x z v : ℕ) → 0 < k → rounds k x z v ≡ rounds (k - 1) x (z ⊕ x / 2 ^ (k - 1) % 2 * v) (nextV v)
-unfolding rounds
+rounds-step : (k x z v : ℕ) → 0 < k → productRounds k x z v ≡ productRounds (k - 1) x (z ⊕ x / 2 ^ (k - 1) % 2 * v) (nextV v)
+unfolding productRounds
 rounds-step zero x z v h = absurd (omega arith)
 rounds-step (suc k) x z v h =
     let e : suc k - 1 ≡ k = omega arith in
     rw e
 
-pub rounds-one : (k x z v t z′ v′ p : ℕ) → 0 < k → rounds k x z v ≡ p → t ≡ x / 2 ^ (k - 1) % 2 * v → z′ ≡ z ⊕ t → v′ ≡ nextV v
-    → rounds (k - 1) x z′ v′ ≡ p
+pub rounds-one : (k x z v t z′ v′ p : ℕ) → 0 < k → productRounds k x z v ≡ p → t ≡ x / 2 ^ (k - 1) % 2 * v → z′ ≡ z ⊕ t → v′ ≡ nextV v
+    → productRounds (k - 1) x z′ v′ ≡ p
 rounds-one k x z v t z′ v′ p h e et ez ev = cc (rounds-step k x z v h)
 
-pub rounds-none : (k x z v : ℕ) → k ≤ 0 → rounds k x z v ≡ z
-unfolding rounds
+pub rounds-none : (k x z v : ℕ) → k ≤ 0 → productRounds k x z v ≡ z
+unfolding productRounds
 rounds-none zero x z v h = refl
 rounds-none (suc k) x z v h = absurd (omega arith)
 
@@ -181,6 +181,6 @@ module _ (t : List ℕ) (n a b h : ℕ) (l : length t ≡ 32) (hn : n < 16) wher
       (getD-set-other (set t (n * 2) a) (n * 2 + 1) (n * 2) b 0 (λ e. omega arith) ∙ getD-set-same t (n * 2) a 0 (omega arith))
       (getD-set-same (set t (n * 2) a) (n * 2 + 1) b 0 (omega (arith, length-set t (n * 2) a)))
 
-  pub entries-more : ((m : ℕ) → m < n → entry t m ≡ rounds 4 m 0 h) → a * 2 ^ 64 + b ≡ rounds 4 n 0 h
-      → (m : ℕ) → m < n + 1 → entry (set (set t (n * 2) a) (n * 2 + 1) b) m ≡ rounds 4 m 0 h
+  pub entries-more : ((m : ℕ) → m < n → entry t m ≡ productRounds 4 m 0 h) → a * 2 ^ 64 + b ≡ productRounds 4 n 0 h
+      → (m : ℕ) → m < n + 1 → entry (set (set t (n * 2) a) (n * 2 + 1) b) m ≡ productRounds 4 m 0 h
   entries-more below e = below-more _ _ (λ m hm. entry-other m hm ∙ below m hm) (entry-same ∙ e)

@@ -14,12 +14,12 @@ nextV v = v / 2 ⊕ v % 2 * R
 
 -- step 3, the last k of the 128 rounds, from Z and V. The first of them looks at the bit of X that has the weight 2 ^ (k - 1), and V is
 -- added to Z if that bit is 1
-unfoldable pub rounds : ℕ → ℕ → ℕ → ℕ → ℕ
-rounds zero x z v = z
-rounds (suc k) x z v = rounds k x (z ⊕ x / 2 ^ k % 2 * v) (nextV v)
+unfoldable pub productRounds : ℕ → ℕ → ℕ → ℕ → ℕ
+productRounds zero x z v = z
+productRounds (suc k) x z v = productRounds k x (z ⊕ x / 2 ^ k % 2 * v) (nextV v)
 
 -- X • Y: all rounds, from Z_0 = 0^128 and V_0 = Y
 unfoldable pub _•_ : ℕ → ℕ → ℕ
-x • y = rounds 128 x 0 y
+x • y = productRounds 128 x 0 y
 
 infixl 70 _•_

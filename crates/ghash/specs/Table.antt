@@ -4,7 +4,7 @@ use mathlib.Core.Path.{_≡_}
 use mathlib.Core.List.{List}
 use Prim.Native.Nat.{ℕ, zero, suc, _+_, _*_, _^_, _<_}
 use Rattle.octets.specs.Lists.{octet}
-use Rattle.ghash.specs.Product.{nextV, rounds}
+use Rattle.ghash.specs.Product.{nextV, productRounds}
 
 -- the next V, n times over
 unfoldable pub nexts : ℕ → ℕ → ℕ
@@ -17,4 +17,4 @@ entry t n = octet t (n * 2) * 2 ^ 64 + octet t (n * 2 + 1)
 
 -- entry n is what the last four rounds of a product with H give for the four bits of n
 pub record IsTableOf (h : ℕ) (t : List ℕ) : Type 0 where
-  pub entries : (n : ℕ) → n < 16 → entry t n ≡ rounds 4 n 0 h
+  pub entries : (n : ℕ) → n < 16 → entry t n ≡ productRounds 4 n 0 h

@@ -4,7 +4,7 @@ use block::Block;
 use block::xor;
 ghost use mathlib.Core.Path.{_≡_};
 ghost use Prim.Native.Nat.{ℕ, _*_, _/_, _%_, _^_, _<_};
-ghost use Rattle.ghash.specs.Product.{nextV, rounds, _•_};
+ghost use Rattle.ghash.specs.Product.{nextV, productRounds, _•_};
 ghost use Rattle.block.specs.Halves.{value};
 ghost use Rattle.ghash.specs.Table.{nexts, IsTableOf};
 
@@ -30,7 +30,7 @@ fn next_v(v: Block) -> Block
 
 // The last four rounds of Algorithm 1, from Z = 0 and V = y.
 fn four_rounds(x: u64, y: Block) -> Block
-    ensures { λ r. ⌜ value r ≡ rounds 4 x 0 (value y) ⌝ }
+    ensures { λ r. ⌜ value r ≡ productRounds 4 x 0 (value y) ⌝ }
 {
     let mut z = Block { hi: 0, lo: 0 };
     let mut v = y;

@@ -4,18 +4,18 @@
 use mathlib.Core.Path.{_≡_, refl, sym, ap}
 use mathlib.Core.Logic.{inl, inr, _≢_}
 use mathlib.Core.List.{List}
-use Prim.Native.Nat.{ℕ, _+_, _^_, _≤_, _<_}
+use Prim.Native.Nat.{ℕ, _+_, _≤_, _<_}
 use native.Mathlib.Decide.{ℕ-discrete, decLt}
 use native.Mathlib.Omega.{arith}
 use lib.ListN.{length}
-use Rattle.octets.specs.Lists.{octet, part, Octets}
+use Rattle.octets.specs.Lists.{octet, part}
 use Rattle.octets.specs.Numbers.{numberAt}
-use Rattle.octets.proofs.Numbers.{numberAt-lt, numberAt-part}
-use Rattle.octets.proofs.Parts.{length-part, octet-part, octets-part, part-part}
+use Rattle.octets.proofs.Numbers.{numberAt-part}
+use Rattle.octets.proofs.Parts.{length-part, octet-part, part-part}
 use Rattle.marks.specs.Gray.{codeLength, ungray}
 use Rattle.octets.proofs.Outside.{Apart}
-use Rattle.bodies.specs.Body.{bodyIn, maskOf, codeOf}
-use Rattle.bodies.specs.Layout.{maskPlace, maskLength, keyLength, layoutOf, Lawful}
+use Rattle.bodies.specs.Body.{bodyIn, codeOf}
+use Rattle.bodies.specs.Layout.{keyLength, Lawful}
 use Rattle.bodies.proofs.Layouts.{lawful, ends-before}
 use Rattle.image.specs.Image.{versionOf, countOf, layout, entryPlace, bodyAt, bodyOf, markAt, markIn, keyAt, keyOf, imageSize}
 use Rattle.image.proofs.ValidImages.{LaidOut}
@@ -39,25 +39,7 @@ pub part-body : (image : List ℕ) (i k n : ℕ) → k + n ≤ layout image .bod
 unfolding bodyOf bodyIn
 part-body image i k n h = part-part (bodyAt image i) (layout image .body) k n image h
 
-pub octets-body : (image : List ℕ) (i : ℕ) → Octets image → Octets (bodyOf image i)
-unfolding bodyOf bodyIn
-octets-body image i h = octets-part (bodyAt image i) (layout image .body) image h
-
-pub octets-mask : (body : List ℕ) → Octets body → Octets (maskOf body)
-octets-mask body h = octets-part maskPlace maskLength body h
-
-pub code-lt : (version : ℕ) (body : List ℕ) → Octets body → codeOf version body < 2 ^ 32
-code-lt version body h = numberAt-lt (layoutOf version .mark) codeLength body h
-
 -- ---- the key
-
-pub length-key : (image : List ℕ) (i : ℕ) → length (keyOf image i) ≡ keyLength
-unfolding keyOf
-length-key image i = length-part (keyAt image i) keyLength image
-
-pub octets-key : (image : List ℕ) (i : ℕ) → Octets image → Octets (keyOf image i)
-unfolding keyOf
-octets-key image i h = octets-part (keyAt image i) keyLength image h
 
 -- it stands in the body
 pub key-body : (image : List ℕ) (i : ℕ) → keyOf image i ≡ part (layout image .key) keyLength (bodyOf image i)

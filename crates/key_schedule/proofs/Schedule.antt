@@ -32,12 +32,12 @@ unfolding nextWord xors tab
 four-nextWord w i = refl
 
 -- w with the word t stored at a place, an octet at a time
-abbrev pub stored : List ℕ → ℕ → List ℕ → List ℕ
-stored w at t = set (set (set (set w at (octet t 0)) (at + 1) (octet t 1)) (at + 2) (octet t 2)) (at + 3) (octet t 3)
+abbrev pub withWord : List ℕ → ℕ → List ℕ → List ℕ
+withWord w at t = set (set (set (set w at (octet t 0)) (at + 1) (octet t 1)) (at + 2) (octet t 2)) (at + 3) (octet t 3)
 
-take-stored : (w : List ℕ) (at : ℕ) (t : List ℕ) → at + 4 ≤ length w → take (at + 4) (stored w at t) ≡ take at w ++ four t
-take-stored w at t h =
-    let one-by-one : stored w at t ≡ sets w at (four t) = simp towards-suc in
+take-with-word : (w : List ℕ) (at : ℕ) (t : List ℕ) → at + 4 ≤ length w → take (at + 4) (withWord w at t) ≡ take at w ++ four t
+take-with-word w at t h =
+    let one-by-one : withWord w at t ≡ sets w at (four t) = simp towards-suc in
     let front : length (take at w) ≡ at = length-take-le at w (omega arith) in
     ap (take (at + 4)) (one-by-one ∙ sets-eq (four t) w at h)
     ∙ take-at (take at w ++ four t) (drop (at + 4) w) (at + 4) (simp length-append (omega arith))
@@ -52,7 +52,7 @@ unfolding expandedBy
 scheduled-none l e = record { within = omega arith; long = l; front = e }
 
 pub scheduled-more : (key w t : List ℕ) (n : ℕ) → n < 52 → t ≡ nextWord w (8 + n) → Scheduled key w n
-    → Scheduled key (stored w (4 * (8 + n)) t) (n + 1)
+    → Scheduled key (withWord w (4 * (8 + n)) t) (n + 1)
 unfolding expandedBy
 scheduled-more key w t n h e g =
     let at : ℕ = 4 * (8 + n) in
@@ -64,8 +64,8 @@ scheduled-more key w t n h e g =
       within = omega arith;
       long = simp length-set (g .long);
       front =
-          ap (λ (k : ℕ). take k (stored w at t)) next
-          ∙ take-stored w at t (omega (arith, g .long))
+          ap (λ (k : ℕ). take k (withWord w at t)) next
+          ∙ take-with-word w at t (omega (arith, g .long))
           ∙ ap₂ _++_ (g .front) made
           ∙ ap (λ (k : ℕ). expandedBy k key) (sym (add-one n));
     }

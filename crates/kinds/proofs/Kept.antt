@@ -55,7 +55,7 @@ tc-long : (n : ℕ) (s : List ℕ) → length (tcWithLength n s) ≡ length s
 unfolding tcWithLength
 tc-long n s = either (λ l. length l ≡ length s) (ltb 3 (length s)) (simp length-set) refl
 
-tc-other : (n : ℕ) (s : List ℕ) (j : ℕ) → j ≢ 2 → j ≢ 3 → octet (tcWithLength n s) j ≡ octet s j
+pub tc-other : (n : ℕ) (s : List ℕ) (j : ℕ) → j ≢ 2 → j ≢ 3 → octet (tcWithLength n s) j ≡ octet s j
 unfolding tcWithLength
 tc-other n s j p q =
     let two = tcChannel s * 4 + (n - 1) / 256 % 4 in
@@ -64,14 +64,14 @@ tc-other n s j p q =
     refl
 
 module _ (n : ℕ) (s : List ℕ) (holds : 3 < length s) where
-  tc-two : octet (tcWithLength n s) 2 ≡ tcChannel s * 4 + (n - 1) / 256 % 4
+  pub tc-two : octet (tcWithLength n s) 2 ≡ tcChannel s * 4 + (n - 1) / 256 % 4
   unfolding tcWithLength
   tc-two =
       let two = tcChannel s * 4 + (n - 1) / 256 % 4 in
       rw (lt-ltb 3 (length s) holds)
       (getD-set-other (set s 2 two) 3 2 ((n - 1) % 256) 0 (omega arith) ∙ getD-set-same s 2 two 0 (omega arith))
 
-  tc-three : octet (tcWithLength n s) 3 ≡ (n - 1) % 256
+  pub tc-three : octet (tcWithLength n s) 3 ≡ (n - 1) % 256
   unfolding tcWithLength
   tc-three =
       let two = tcChannel s * 4 + (n - 1) / 256 % 4 in

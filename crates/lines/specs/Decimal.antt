@@ -19,11 +19,11 @@ andThen (Is n) f = f n
 andThen Nothing f = Nothing
 
 -- the number that is made from n by putting the digits of a text behind it
-unfoldable pub numberFrom : ℕ → List ℕ → Number
-numberFrom n [] = Is n
-numberFrom n (c ∷ s) = andThen (longerBy n c) (λ m. numberFrom m s)
+unfoldable pub spelledAfter : ℕ → List ℕ → Number
+spelledAfter n [] = Is n
+spelledAfter n (c ∷ s) = andThen (longerBy n c) (λ m. spelledAfter m s)
 
 -- the number that a text spells; an empty text spells none
-unfoldable pub numberOf : List ℕ → Number
-numberOf [] = Nothing
-numberOf (c ∷ s) = numberFrom 0 (c ∷ s)
+unfoldable pub spelled : List ℕ → Number
+spelled [] = Nothing
+spelled (c ∷ s) = spelledAfter 0 (c ∷ s)

@@ -1,6 +1,6 @@
 // Numbers in decimal.
 ghost use mathlib.Core.Path.{_≡_};
-ghost use Rattle.lines.specs.Decimal.{longerBy, numberOf};
+ghost use Rattle.lines.specs.Decimal.{longerBy, spelled};
 
 // What a text spells: a number, or none.
 pub enum Number {
@@ -27,7 +27,7 @@ fn longer(n: u64, c: u8) -> Number
 
 // The number that a text spells. A text that is empty, has a character that is no digit, or spells more than a u64 holds, spells none.
 pub fn read_number(text: &[u8]) -> Number
-    ensures { λ r. ⌜ r ≡ numberOf (now (text .entry)) ⌝ }
+    ensures { λ r. ⌜ r ≡ spelled (now (text .entry)) ⌝ }
 {
     if text.len() == 0 {
         return Number::Nothing;

@@ -42,9 +42,9 @@ last-number : next 67108862 ≡ ascii "4294967232"
 unfolding next digits
 last-number = refl
 
-spent : next 67108863 ≡ ascii "none"
+after-the-greatest : next 67108863 ≡ ascii "none"
 unfolding next
-spent = refl
+after-the-greatest = refl
 
 zero-is-a-digit : decimal 0 ≡ ascii "0"
 unfolding digits

@@ -15,11 +15,10 @@ use Rattle.octets.specs.Numbers.{numberAt}
 use Rattle.octets.proofs.Bounds.{octets-set}
 use Rattle.octets.proofs.Numbers.{octet-powers, number-octet, number-made}
 use Rattle.marks.specs.Gray.{codeLength, gray}
-use Rattle.marks.specs.Stores.{flippedOctet, codeOctet, storeOf, raising, steps, stored}
+use Rattle.marks.specs.Stores.{flippedOctet, codeOctet, storeOf, raisingStore, steps, stored}
 use Rattle.marks.specs.declared.plans.Store.{Store}
 use Rattle.marks.proofs.GrayCode.{gray-lt, gray-octet, flipped-lt}
-use Rattle.octets.proofs.Outside.{Changed}
-use Rattle.marks.proofs.Made.{Inside, put, stored-none, stored-more, steps-changed}
+use Rattle.marks.proofs.Made.{Inside, put, stored-none, stored-more}
 
 -- the flipped bit stands in one of the four octets
 pub octet-of-four : (m : ℕ) → m + 1 < 2 ^ 32 → flippedOctet m < 4
@@ -89,7 +88,7 @@ put-marked image at m held h =
 
 -- the n stores that raise the mark at a place from m to m + n
 abbrev pub raises : ℕ → ℕ → ℕ → List Store
-raises at m n = steps n (raising at m)
+raises at m n = steps n (raisingStore at m)
 
 module _ (image : List ℕ) (at m : ℕ) where
   abbrev raised : ℕ → List ℕ
@@ -98,10 +97,10 @@ module _ (image : List ℕ) (at m : ℕ) where
   -- what holds of the image and is kept by each store holds after n of them
   kept : (P : ℕ → List ℕ → Type 0) (n : ℕ) → P 0 image
       → ((i : ℕ) → i < n → P i (raised i) → P (i + 1) (put (raised i) (storeOf at (m + i)))) → P n (raised n)
-  kept P zero start step = rw (stored-none (raising at m) image) start
+  kept P zero start step = rw (stored-none (raisingStore at m) image) start
   kept P (suc n) start step =
       let before : P n (raised n) = kept P n start (λ i h. step i (omega arith)) in
-      rw (← add-one n, stored-more (raising at m) image n) (step n (omega arith) before)
+      rw (← add-one n, stored-more (raisingStore at m) image n) (step n (omega arith) before)
 
   -- the image stays one of octets
   pub raises-octets : (n : ℕ) → Octets image → Octets (raised n)
@@ -112,7 +111,3 @@ module _ (image : List ℕ) (at m : ℕ) where
   raises-marked n held h =
       kept (λ i s. Marked s at (m + i)) n (rw add-zero held)
       (λ i l before. rw (← add-assoc m i 1) (put-marked (raised i) at (m + i) before (omega arith)))
-
-  -- every octet outside the four is as before
-  pub raises-changed : (n : ℕ) → n ≤ 2 ^ 32 - 1 - m → Changed image at codeLength (raised n)
-  raises-changed n h = steps-changed (raising at m) image at codeLength n (λ i l. store-inside at (m + i) (omega arith))

@@ -28,8 +28,8 @@ abbrev pub storeOf : ℕ → ℕ → Store
 storeOf at m = record { at = at + 3 - flippedOctet m; value = codeOctet (gray (m + 1)) (flippedOctet m) }
 
 -- store i of those that raise it from m on, one at a time
-abbrev pub raising : ℕ → ℕ → ℕ → Store
-raising at m i = storeOf at (m + i)
+abbrev pub raisingStore : ℕ → ℕ → ℕ → Store
+raisingStore at m i = storeOf at (m + i)
 
 -- ---- a plan
 
@@ -41,7 +41,7 @@ storesIn (plan.Raise at from to) = to - from
 -- store i of them
 abbrev pub storeAt : Plan → ℕ → Store
 storeAt plan.Nothing i = record { at = 0; value = 0 }
-storeAt (plan.Raise at from to) i = raising at from i
+storeAt (plan.Raise at from to) i = raisingStore at from i
 
 -- the list f 0, f 1, .., f (n - 1)
 unfoldable pub steps : ℕ → (ℕ → Store) → List Store

@@ -83,7 +83,7 @@ fn store_at(plan: Plan, i: u32) -> Store
     }
 }
 
-fn least(a: u32, b: u32) -> u32
+fn lesser(a: u32, b: u32) -> u32
     ensures { λ r. ⌜ r ≡ min a b ⌝ }
 {
     if a <= b {
@@ -96,7 +96,7 @@ fn least(a: u32, b: u32) -> u32
 pub fn make(image: &mut [u8], plan: Plan, j: u32) -> u32
     ensures { λ r. ⌜ (r ≡ length (firstStores plan j)) × (now (image .exit) ≡ stored (now (image .entry)) (firstStores plan j)) ⌝ }
 {
-    let count = least(j, stores_in(plan));
+    let count = lesser(j, stores_in(plan));
     let mut made: u32 = 0;
     while made < count {
         let store = store_at(plan, made);

@@ -2,9 +2,8 @@
 -- Assumes nothing.
 use mathlib.Core.Path.{_≡_, refl, ap, ap₂, _∙_}
 use mathlib.Core.Bool.{Bool, true, false, _&&_, and-false}
-use Prim.Native.Nat.{ℕ, zero, suc, _+_, _<_}
+use Prim.Native.Nat.{ℕ, zero, suc, _<_}
 use native.Mathlib.Decide.{decLt}
-use native.Mathlib.Numerals.{add-one}
 use native.Mathlib.Omega.{arith}
 use Rattle.octets.specs.Lists.{all}
 
@@ -18,15 +17,7 @@ pub and-right : (a b : Bool) → (a && b) ≡ true → b ≡ true
 and-right true b e = e
 and-right false b e = let z : _≡_ {A = ℕ} 0 1 = cc in absurd (omega arith)
 
--- ---- from each number to all: none, one more, and every one
-
-pub all-none : (test : ℕ → Bool) → all 0 test ≡ true
-unfolding all
-all-none test = refl
-
-pub all-more : (n : ℕ) (test : ℕ → Bool) → all n test ≡ true → test n ≡ true → all (n + 1) test ≡ true
-unfolding all
-all-more n test e h = rw (add-one, e, h)
+-- ---- from each number to all
 
 pub all-every : (n : ℕ) (test : ℕ → Bool) → ((i : ℕ) → i < n → test i ≡ true) → all n test ≡ true
 unfolding all

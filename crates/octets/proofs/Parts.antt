@@ -7,8 +7,7 @@ use native.Mathlib.Nat.{add-assoc, add-zero, add-suc, le-refl}
 use native.Mathlib.Omega.{arith}
 use lib.ListN.{length, set, take, drop, length-drop}
 use lib.Seq.{getD-append-add, take-suc, take-length, getD-drop, set-at, append-snoc}
-use Rattle.octets.specs.Lists.{octet, tab, part, Octets}
-use Rattle.octets.proofs.Bounds.{octets-tab}
+use Rattle.octets.specs.Lists.{octet, tab, part}
 use Rattle.octets.proofs.Rules.{length-tab, tab-ext, octet-tab}
 
 -- past the first list, an octet is one of the second
@@ -51,10 +50,6 @@ length-part at n s = length-tab n _
 pub octet-part : (at n : ℕ) (s : List ℕ) (i : ℕ) → i < n → octet (part at n s) i ≡ octet s (at + i)
 unfolding part
 octet-part at n s i h = octet-tab n _ i h
-
-pub octets-part : (at n : ℕ) (s : List ℕ) → Octets s → Octets (part at n s)
-unfolding part
-octets-part at n s hs = octets-tab n _ (λ i h. hs (at + i))
 
 -- two lists whose octets agree there
 pub part-same : (at n : ℕ) (s t : List ℕ) → ((i : ℕ) → i < n → octet s (at + i) ≡ octet t (at + i)) → part at n s ≡ part at n t

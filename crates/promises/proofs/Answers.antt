@@ -42,7 +42,7 @@ use Rattle.judging.proofs.Searches.{Finds, finds, finds-none}
 use Rattle.promises.specs.Answers.{reporting, Rules, rule, noMore, reportOf, Gives, Exactly}
 use Rattle.promises.specs.Answers.{loadRules, securingRules, checkingRules, Answering}
 use Rattle.promises.specs.Frames.{FrameRules, RightField, securitySize, spiOn, numberOn, textOn, macOn, rightMac}
-use Rattle.promises.specs.Images.{serviceAt, windowAt, maskAt, keyAt, lastAt, ImageRules, Agreeing, Serves}
+use Rattle.promises.specs.Images.{serviceAt, windowAt, maskAt, keyOctetsAt, lastAt, ImageRules, Agreeing, Serves}
 use Rattle.promises.proofs.Fields.{service-at, window-at, mask-at, key-at}
 use Rattle.promises.proofs.Readings.{form, header-size, trailer-size, frame-kept, frame-tested, field-kept, field-tested}
 use Rattle.promises.proofs.Readings.{spi-on, security-size, number-on, text-on, mac-right}
@@ -105,10 +105,10 @@ unfolding first Numbered
 step refusal true tests kept behind breaks keeps = inl (breaks refl, refl)
 step refusal false tests kept behind breaks keeps = inr (keeps refl)
 
-next : (refusal : Answer) (broken : Bool) (tests : List Test) (kept : Type 0) (behind : Rules) → (broken ≡ true → kept → ⊥)
+next-rule : (refusal : Answer) (broken : Bool) (tests : List Test) (kept : Type 0) (behind : Rules) → (broken ≡ true → kept → ⊥)
     → (broken ≡ false → kept) → Numbered behind (first tests)
     → Numbered (rule refusal kept behind) (first ((reported refusal .number, broken) ∷ tests))
-next refusal broken tests kept behind breaks keeps then = step refusal broken tests kept behind breaks (λ t. (keeps t, then))
+next-rule refusal broken tests kept behind breaks keeps then = step refusal broken tests kept behind breaks (λ t. (keeps t, then))
 
 last-done : Numbered noMore (first [])
 unfolding first Numbered
@@ -175,7 +175,7 @@ module _ (image numbers : List ℕ) (octets : Octets image) (direction : ℕ) (s
     unfolding associationOf held
     held-mask = ap (λ (x : Association). heldIn x .mask) (f .association) ∙ mask-at image e
 
-    held-key : h .key ≡ keyAt image e
+    held-key : h .key ≡ keyOctetsAt image e
     unfolding associationOf held
     held-key = ap (λ (x : Association). heldIn x .key) (f .association) ∙ key-at image e
 
@@ -193,7 +193,7 @@ module _ (image numbers : List ℕ) (octets : Octets image) (direction : ℕ) (s
     number = number-on h said frame ∙ ap (λ (s : ℕ). numberOn s said frame) held-service
 
     mac : macRight h (kindSaid said) frame
-        ≡ same (rightMac (serviceAt image e) said (maskAt image e) (keyAt image e) frame) (macOn said frame)
+        ≡ same (rightMac (serviceAt image e) said (maskAt image e) (keyOctetsAt image e) frame) (macOn said frame)
     mac = mac-right h said frame (ap length held-mask ∙ length-part _ 6 image) ∙ rw (held-service, held-mask, held-key)
 
   -- the first five rules, which sending and checking share
@@ -218,13 +218,13 @@ module _ (image numbers : List ℕ) (octets : Octets image) (direction : ℕ) (s
       (λ t1.
       let rules = rules-kept image octets (not-false (validImage image) t1) in
       let rest =
-      next answer.BadMarks (not (agrees image numbers)) _ _ _
+      next-rule answer.BadMarks (not (agrees image numbers)) _ _ _
       (λ t a. differ (agrees image numbers) (agreement-tested image numbers octets a) (not-true (agrees image numbers) t))
       (λ t. agreement image numbers octets (not-false (agrees image numbers) t))
-      (next answer.BadFrame (not (obeys (kindSaid said) frame secured)) _ _ _
+      (next-rule answer.BadFrame (not (obeys (kindSaid said) frame secured)) _ _ _
       (λ t k. differ _ (frame-tested said frame secured k) (not-true (obeys (kindSaid said) frame secured) t))
       (λ t. frame-kept said frame secured (not-false (obeys (kindSaid said) frame secured) t))
-      (next answer.WrongCheckField (not (fieldOk (kindSaid said) frame)) _ _ _
+      (next-rule answer.WrongCheckField (not (fieldOk (kindSaid said) frame)) _ _ _
       (λ t f. differ _ (field-tested said frame f) (not-true (fieldOk (kindSaid said) frame) t))
       (λ t. field-kept said frame (not-false (fieldOk (kindSaid said) frame) t))
       (step answer.NoEntry (isNone (matching image numbers w)) tests ((d : ℕ) × Serves image direction said spi frame d) behind nobody
@@ -250,13 +250,13 @@ module _ (image numbers : List ℕ) (octets : Octets image) (said : Said) (spi :
       let l = last image numbers octets 1 said spi frame rules some in
       let all = under image numbers octets 1 said spi frame rules some in
       let most = form said .largest in
-      next answer.TooLong (exceeds (kindSaid said) (securityLength (heldIn a)) frame) _ _ _
+      next-rule answer.TooLong (exceeds (kindSaid said) (securityLength (heldIn a)) frame) _ _ _
       (λ t r. omega (arith, r d s, ltb-true (kindSaid said .largest) size t))
       (λ t. all _ (omega (arith, ltb-false (kindSaid said .largest) size t)))
-      (next answer.NoRoom (ltb (length output) size) _ _ _
+      (next-rule answer.NoRoom (ltb (length output) size) _ _ _
       (λ t r. omega (arith, r d s, ltb-true (length output) size t))
       (λ t. all _ (omega (arith, ltb-false (length output) size t)))
-      (next answer.NumbersSpent (spent (a .number)) _ _ _
+      (next-rule answer.NumbersSpent (spent (a .number)) _ _ _
       (λ t r. omega (arith, r d s, leb-true greatest (a .number) t))
       (λ t. all _ (omega (arith, leb-false greatest (a .number) t)))
       last-done)))
@@ -292,16 +292,16 @@ module _ (image numbers : List ℕ) (octets : Octets image) (said : Said) (frame
       let o = held-window image numbers octets 2 said spi frame rules some in
       let v = number image numbers octets 2 said spi frame rules some in
       let all = under image numbers octets 2 said spi frame rules some in
-      next answer.TooShort (tooShort (kindSaid said) (securityLength h) frame) _ _ _
+      next-rule answer.TooShort (tooShort (kindSaid said) (securityLength h) frame) _ _ _
       (λ t r. omega (arith, r d s, ltb-true (length frame) least t))
       (λ t. all _ (omega (arith, ltb-false (length frame) least t)))
-      (next answer.NoRoom (ltb (length output) size) _ _ _
+      (next-rule answer.NoRoom (ltb (length output) size) _ _ _
       (λ t r. omega (arith, r d s, ltb-true (length output) size t))
       (λ t. all _ (omega (arith, ltb-false (length output) size t)))
-      (next answer.WrongMac (not right) _ _ _
+      (next-rule answer.WrongMac (not right) _ _ _
       (λ t r. differ right (m ∙ rw (r d s) (same-refl (macOn said frame))) (not-true right t))
       (λ t. all _ (same-eq _ _ (sym m ∙ not-false right t)))
-      (next answer.OutsideWindow (not inside) _ _ _
+      (next-rule answer.OutsideWindow (not inside) _ _ _
       (λ t r.
       let x = r d s in
       differ inside (accepting (a .number) (h .window) n (omega (arith, x .above)) (omega (arith, x .near)) (omega (arith, x .most)))

@@ -29,7 +29,7 @@ use Rattle.promises.specs.Runs.{Step, load, send, check, sendCut, checkC
 use Rattle.promises.proofs.Keeps.{Good, Inv, loaded-last}
 use Rattle.promises.proofs.Released as releasing
 use Rattle.promises.proofs.Sent as sending
-use Rattle.promises.proofs.Stored.{raising}
+use Rattle.promises.proofs.Stored.{raised-by}
 use Rattle.promises.proofs.Used.{Used, send-number, send-used, check-used}
 
 pub data Effect (e : ℕ) (x y : State) (shown : List Shown) : Type 0 where
@@ -83,7 +83,7 @@ module _ (e : ℕ) (x : State) (inv : Inv x) (below : e < countIn (x .image)) wh
 
     -- cut and loaded: no mark falls, and that of an entry that sends rises only where its next number needs it
     r : (j : ℕ) → Raised s d (markIn s d + min j (q .number / 64 - markIn s d)) (stopped j)
-    r j = raising s last (inv .octets) direction said spi frame d room q u j
+    r j = raised-by s last (inv .octets) direction said spi frame d room q u j
 
     rising : (j : ℕ) → markIn s e ≤ markIn (stopped j) e
     rising j = by-entry (ℕ-discrete e d)

@@ -17,7 +17,7 @@ use Rattle.bodies.specs.Layout.{versionOne, versionTwo, layoutOf}
 use Rattle.bodies.specs.declared.layout.Layout.{Layout}
 use Rattle.image.proofs.Places.{octet-body, number-body, part-body, key-body, mark-at}
 use Rattle.promises.specs.Images.{place, serviceAt, kindAt, directionAt, stateAt, spacecraftAt, channelAt, mapAt, windowAt, maskAt}
-use Rattle.promises.specs.Images.{keyAt, codeAt, wholeBodyAt, isSet}
+use Rattle.promises.specs.Images.{keyOctetsAt, codeAt, wholeBodyAt, isSet}
 
 -- in both versions everything stands at the same places
 pub record Places (l : Layout) : Type 0 where
@@ -91,7 +91,7 @@ module _ (image : List ℕ) (i : ℕ) where
   pub last-mask-at : octet (maskOf (bodyOf image i)) 5 ≡ octet image (place image i 15)
   last-mask-at = octet-part 10 6 (bodyOf image i) 5 (omega arith) ∙ octet-at 15 (omega arith)
 
-  pub key-at : keyOf image i ≡ keyAt image i
+  pub key-at : keyOf image i ≡ keyOctetsAt image i
   key-at = key-body image i ∙ ap (λ (p : ℕ). part p 32 (bodyOf image i)) (here .key) ∙ part-at 16 32 (omega arith)
 
   pub mark-place : markAt image i ≡ place image i 48

@@ -10,8 +10,8 @@ use native.Mathlib.Omega.{arith}
 use borrow.Author.Tests.{eqb-true, eq-eqb, ne-eqb, ltb-true, lt-ltb, le-ltb}
 use lib.Bits.{bitAnd}
 use lib.Dec.{eqb, ltb}
-use lib.ListN.{length, take, set, length-set}
-use lib.Seq.{getD-set-same, getD-set-other, getD-take, length-take-le, ext-getD}
+use lib.ListN.{length, take}
+use lib.Seq.{getD-take, length-take-le, ext-getD}
 use Rattle.octets.specs.Lists.{octet}
 use Rattle.octets.proofs.Alls.{and-left, and-right}
 use Rattle.octets.proofs.Rules.{length-tab, octet-tab}
@@ -22,6 +22,7 @@ use Rattle.kinds.specs.Kinds.{Kind, telecommand, tm, aos, noKind, kindBehind, k
 use Rattle.frame.specs.Masked.{masked}
 use Rattle.kinds.specs.declared.kinds.Kind.the-variants as kind
 use Rattle.kinds.specs.declared.kinds.Named.the-variants as answer
+use Rattle.kinds.proofs.Kept.{tc-other, tc-two, tc-three}
 use Rattle.frame.proofs.Masking.{octet-reached, octet-beyond, length-masked}
 use Rattle.promises.specs.Forms.{Form, TcHeader, tcSecuredOctet, tcForm, SecondaryHeader}
 use Rattle.promises.specs.Forms.{plainTcForm, segmentedTcForm, tmForm, aosForm, noForm, formOf, underMask}
@@ -65,38 +66,18 @@ module _ (h n : ℕ) (clear : List ℕ) (five : 5 ≤ h) (small : n ≤ 1024) (f
   abbrev head : List ℕ
   head = take h clear
 
-  -- what rewriting the length stores in octets 2 and 3
-  abbrev two : ℕ
-  two = octet head 2 / 4 * 4 + (n - 1) / 256 % 4
-
-  abbrev three : ℕ
-  three = (n - 1) % 256
-
-  long : length head ≡ h
-  long = length-take-le h clear fits
-
-  stored-octets : tcWithLength n head ≡ set (set head 2 two) 3 three
-  unfolding tcWithLength
-  stored-octets = let l = long in rw (lt-ltb 3 (length head) (omega arith))
-
   tc-copied : (j : ℕ) → j < h → octet (tcWithLength n head) j ≡ tcSecuredOctet n clear j
-  tc-copied j below = ap (λ (s : List ℕ). octet s j) stored-octets ∙ by-place (ℕ-discrete j 2) (ℕ-discrete j 3)
+  tc-copied j below = by-place (ℕ-discrete j 2) (ℕ-discrete j 3)
     where
-      by-place : Dec (j ≡ 2) → Dec (j ≡ 3) → octet (set (set head 2 two) 3 three) j ≡ tcSecuredOctet n clear j
+      holds : 3 < length head
+      holds = omega (arith, length-take-le h clear fits)
+
+      by-place : Dec (j ≡ 2) → Dec (j ≡ 3) → octet (tcWithLength n head) j ≡ tcSecuredOctet n clear j
       by-place (yes p) q =
-          let l = long in
           let high : (n - 1) / 256 % 4 ≡ (n - 1) / 256 = omega arith in
-          rw p
-          (getD-set-other (set head 2 two) 3 2 three 0 (omega arith)
-          ∙ getD-set-same head 2 two 0 (omega arith)
-          ∙ ap₂ (λ (x y : ℕ). x / 4 * 4 + y) (getD-take h clear 2 0 (omega arith)) high)
-      by-place (no p) (yes q) =
-          let l = long in
-          let m = length-set head 2 two in
-          rw q (getD-set-same (set head 2 two) 3 three 0 (omega arith))
-      by-place (no p) (no q) =
-          rw (ne-eqb j 2 p, ne-eqb j 3 q)
-          (getD-set-other (set head 2 two) 3 j three 0 q ∙ getD-set-other head 2 j two 0 p ∙ getD-take h clear j 0 below)
+          rw p (tc-two n head holds ∙ ap₂ (λ (x y : ℕ). x / 4 * 4 + y) (getD-take h clear 2 0 (omega arith)) high)
+      by-place (no p) (yes q) = rw q (tc-three n head holds)
+      by-place (no p) (no q) = rw (ne-eqb j 2 p, ne-eqb j 3 q) (tc-other n head j p q ∙ getD-take h clear j 0 below)
 
 tc-describes : (h most : ℕ) (map : List ℕ → ℕ) → 5 ≤ h → Describes (tcForm h map most) (telecommand h map most)
 tc-describes h most map five =

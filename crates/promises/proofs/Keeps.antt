@@ -1,6 +1,6 @@
 -- What every step of a run keeps, load or call, whole or cut: the image but for its marks, its validity, and numbers that agree with it.
 -- Assumes nothing.
-use Prim.Native.Nat.{ℕ, _+_, _-_, _*_, _<_}
+use Prim.Native.Nat.{ℕ, _+_, _*_, _<_}
 use mathlib.Core.Path.{_≡_, refl, sym, ap, _∙_}
 use mathlib.Core.Bool.{Bool, true, false, cond}
 use mathlib.Core.List.{List, []}
@@ -22,8 +22,8 @@ use Rattle.link.proofs.Leaving.{left-done, left-refused, cut-done, cut-refused}
 use Rattle.promises.specs.Frames.{spiOn}
 use Rattle.promises.specs.Images.{lastAt}
 use Rattle.promises.specs.Runs.{Step, load, send, check, sendCut, checkCut, State, kept, after}
-use Rattle.promises.proofs.Stored.{raising, all-after, agree-again, outside}
-use Rattle.promises.proofs.Unmarked.{Same, same-refl}
+use Rattle.promises.proofs.Stored.{raised-by, all-after, agree-again, outside}
+use Rattle.promises.proofs.Unmarked.{Same, same-itself}
 use Rattle.promises.proofs.Used.{Used, send-used, check-used}
 
 -- ---- a state of a run, and the next
@@ -89,10 +89,10 @@ module _ (x : State) (inv : Inv x) where
       }
 
   reload-keeps : (any : List ℕ) → Keeps x (kept (loaded s any))
-  reload-keeps any = load-keeps s any (inv .octets) refl (same-refl s)
+  reload-keeps any = load-keeps s any (inv .octets) refl (same-itself s)
 
   unchanged : Keeps x x
-  unchanged = record { inv = inv; stays = refl; same = same-refl s }
+  unchanged = record { inv = inv; stays = refl; same = same-itself s }
 
   -- ---- a call with that reply at entry d
 
@@ -103,15 +103,15 @@ module _ (x : State) (inv : Inv x) where
       stopped j = afterStores s d (q .number) j
 
       stopped-octets : (j : ℕ) → Octets (stopped j)
-      stopped-octets j = raising s last (inv .octets) direction said spi frame d room q (used z) j .octets
+      stopped-octets j = raised-by s last (inv .octets) direction said spi frame d room q (used z) j .octets
 
       stopped-same : (j : ℕ) → Same s (stopped j)
       stopped-same j =
-          let r = raising s last (inv .octets) direction said spi frame d room q (used z) j in
+          let r = raised-by s last (inv .octets) direction said spi frame d room q (used z) j in
           record { size = r .long; elsewhere = λ p m. r .outside p (outside s d p (m d (used z .serves .entry))) }
 
       stopped-valid : (j : ℕ) → validImage (stopped j) ≡ validImage s
-      stopped-valid j = raising s last (inv .octets) direction said spi frame d room q (used z) j .valid ∙ sym (used z .valid)
+      stopped-valid j = raised-by s last (inv .octets) direction said spi frame d room q (used z) j .valid ∙ sym (used z .valid)
 
       whole : stored s (q .stores) ≡ stopped (length (q .stores))
       whole = all-after s last (inv .octets) direction said spi frame d room q (used z)

@@ -2,22 +2,14 @@
 -- Assumes nothing.
 use Prim.Native.Nat.{ℕ}
 use mathlib.Core.Path.{_≡_, sym, _∙_}
-use mathlib.Core.Bool.{Bool, true, false, not}
+use mathlib.Core.Bool.{Bool, true, false}
 use mathlib.Core.List.{List, [], _∷_}
 use native.Mathlib.Omega.{arith}
-use lib.Dec.{ltb}
 use lib.ListN.{length}
-use Rattle.frame.specs.Parts.{tooShort}
-use Rattle.frame.specs.Rules.{obeys}
-use Rattle.association.specs.Association.{heldIn, isNone, theOne}
-use Rattle.association.specs.Numbers.{accepts}
-use Rattle.services.specs.SecurityHeader.{securityLength}
-use Rattle.protection.specs.Protection.{numberIn, clearLength}
 use Rattle.judging.specs.Answers.{Test, first}
 use Rattle.judging.specs.Wants.{checkingWants}
 use Rattle.link.specs.Calls.{comparison, checkingReply, checkedAs, checked}
 use Rattle.judging.specs.Replies.{seen, checkingTests, checking}
-use Rattle.judging.specs.Said.{Said, kindSaid}
 use Rattle.link.proofs.Leaving.{left-answer}
 use Rattle.promises.specs.NoPadding.{NeverNine}
 

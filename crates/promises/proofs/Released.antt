@@ -20,7 +20,7 @@ use Rattle.judging.proofs.Answered.{Checks, checks}
 use Rattle.link.proofs.Leaving.{left-answer, left-done, handed-result, cut-done}
 use Rattle.judging.proofs.Searches.{finds}
 use Rattle.promises.specs.Frames.{spiOn, numberOn, fieldOn, textOn, comingIn}
-use Rattle.promises.specs.Images.{serviceAt, keyAt}
+use Rattle.promises.specs.Images.{serviceAt, keyOctetsAt}
 use Rattle.promises.proofs.Fields.{service-at, key-at}
 use Rattle.promises.proofs.Readings.{field-on, text-on, coming-in}
 use Rattle.promises.proofs.Used.{Used, only-entry, check-number, check-used}
@@ -70,7 +70,7 @@ module _ (image numbers : List ℕ) (said : Said) (frame output : List ℕ) (e :
 
   pub out : let service = serviceAt image e in
       handed (checked image numbers said frame output)
-      ≡ comingIn service (keyAt image e) (fieldOn service said frame) (textOn service said frame)
+      ≡ comingIn service (keyOctetsAt image e) (fieldOn service said frame) (textOn service said frame)
   unfolding checkingReply checking seen clearData associationOf held
   out =
       let h = heldIn (associationOf image numbers e) in

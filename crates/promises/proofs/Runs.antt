@@ -13,7 +13,7 @@ use Rattle.promises.specs.Runs.{Step, State, kept, after, ran, Shown, re
 use Rattle.promises.specs.Runs.{SentAfter, SentRise, ReleasedAfter, ReleasedRise, sentIn, releasedIn, Without, Once, Runs}
 use Rattle.promises.proofs.Effects.{Effect, quiet, loads, sends, frees, effect}
 use Rattle.promises.proofs.Keeps.{Inv, Keeps, loaded-image, load-inv, keeps}
-use Rattle.promises.proofs.Unmarked.{Same, same-refl, same-then, count-same, direction-same}
+use Rattle.promises.proofs.Unmarked.{Same, same-itself, same-then, count-same, direction-same}
 use Rattle.promises.proofs.Valids.{rules-kept, rules-valid}
 
 -- ---- from a state to the next
@@ -210,7 +210,7 @@ released-once (released n ∷ r) a = (released-above r n a n (omega arith), rele
 
 pub ran-keeps : (vs : List Step) (x : State) → Inv x → Keeps x (ran x vs)
 unfolding ran
-ran-keeps [] x inv = record { inv = inv; stays = refl; same = same-refl (x .image) }
+ran-keeps [] x inv = record { inv = inv; stays = refl; same = same-itself (x .image) }
 ran-keeps (v ∷ vs) x inv =
     let k = keeps x v inv in
     let m = ran-keeps vs (after x v) (k .inv) in
@@ -228,7 +228,7 @@ runs image numbers steps octets =
     let x : State = kept (loaded image numbers) in
     let inv = load-inv image numbers octets in
     let k = ran-keeps steps x inv in
-    let first : Same image (x .image) = rw (loaded-image image numbers) (same-refl image) in
+    let first : Same image (x .image) = rw (loaded-image image numbers) (same-itself image) in
     let all : Same image (ran x steps .image) = same-then image (x .image) first (ran x steps .image) (k .same) in
     let here : (e : ℕ) → e < countIn image → e < countIn (x .image) = λ e h. rw (loaded-image image numbers) h in
     let sending : (e : ℕ) → e < countIn image → SentRise (trace e x steps) = λ e h. sent-rising e steps x inv (here e h) in

@@ -34,7 +34,7 @@ use Rattle.protection.proofs.Wire as wire
 use Rattle.promises.specs.Forms.{formSaid}
 use Rattle.promises.specs.Frames as words
 use Rattle.promises.specs.Frames.{SecuredFrom}
-use Rattle.promises.specs.Images.{place, serviceAt, maskAt, keyAt, lastAt}
+use Rattle.promises.specs.Images.{place, serviceAt, maskAt, keyOctetsAt, lastAt}
 use Rattle.promises.proofs.Fields.{service-at, mask-at, key-at}
 use Rattle.promises.proofs.Readings.{form, header-size, frame-kept, field-kept, control-on, data-in-clear}
 use Rattle.promises.proofs.Readings.{security-size, spi-on, number-on, text-on, field-on, mac-right, going-out}
@@ -145,7 +145,7 @@ module _ (image numbers : List ℕ) (said : Said) (spi : ℕ) (frame output : Li
         field = field-kept said S (wire.field-right h (kindSaid said) (lawful (said .checkField) (said .kind)) spi n frame clear fits);
       }
 
-  pub made : SecuredFrom (serviceAt image e) said spi (lastAt numbers e + 1) (maskAt image e) (keyAt image e) frame
+  pub made : SecuredFrom (serviceAt image e) said spi (lastAt numbers e + 1) (maskAt image e) (keyOctetsAt image e) frame
       (handed (secured image numbers said spi frame output))
   unfolding associationOf held
   made =

@@ -40,8 +40,8 @@ module _ (image numbers : List ℕ) (octets : Octets image) (direction : ℕ) (s
 
   -- ---- after the first j stores
 
-  pub raising : (j : ℕ) → Raised image e (markIn image e + min j (q .number / 64 - markIn image e)) (afterStores image e (q .number) j)
-  raising j = raised image e (q .number) j (u .valid) octets (u .serves .entry) (u .fits)
+  pub raised-by : (j : ℕ) → Raised image e (markIn image e + min j (q .number / 64 - markIn image e)) (afterStores image e (q .number) j)
+  raised-by j = raised image e (q .number) j (u .valid) octets (u .serves .entry) (u .fits)
 
   -- there are as many as the mark has to rise
   count : length (q .stores) ≡ q .number / 64 - markIn image e
@@ -55,11 +55,11 @@ module _ (image numbers : List ℕ) (octets : Octets image) (direction : ℕ) (s
       (sym (take-all (length (q .stores)) (q .stores) (omega arith)) ∙ ap (take (length (q .stores))) (u .plan))
 
   reached : (j : ℕ) → markIn (afterStores image e (q .number) j) e ≡ lastAt numbers e / 64 + min j (length (q .stores))
-  reached j = omega (arith, raising j .mark, old, count)
+  reached j = omega (arith, raised-by j .mark, old, count)
 
   pub mark-alone : (j : ℕ) → MarkAlone image e (lastAt numbers e / 64 + min j (length (q .stores))) (afterStores image e (q .number) j)
   mark-alone j =
-      let r = raising j in
+      let r = raised-by j in
       record {
         valid = rules-kept (afterStores image e (q .number) j) (r .octets) (r .valid);
         size = r .long;
@@ -90,7 +90,7 @@ module _ (image numbers : List ℕ) (octets : Octets image) (direction : ℕ) (s
         record {
           images = rw all-after (rw all at (mark-alone n));
           agree =
-              agreement (stored image (q .stores)) (set numbers (q .entry) (q .number)) (rw all-after (raising n .octets)) agree-again;
+              agreement (stored image (q .stores)) (set numbers (q .entry) (q .number)) (rw all-after (raised-by n .octets)) agree-again;
           rise = rise;
           few = few;
           lasts = ap (λ (d : ℕ). set numbers d (q .number)) (u .entry);

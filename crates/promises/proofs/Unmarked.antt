@@ -18,8 +18,8 @@ pub record Same (before image : List ℕ) : Type 0 where
   pub size : length image ≡ length before
   pub elsewhere : (p : ℕ) → Unmarked before p → octet image p ≡ octet before p
 
-pub same-refl : (image : List ℕ) → Same image image
-same-refl image = record { size = refl; elsewhere = λ p u. refl }
+pub same-itself : (image : List ℕ) → Same image image
+same-itself image = record { size = refl; elsewhere = λ p u. refl }
 
 -- the contents end before the first body
 in-contents : (image : List ℕ) (p : ℕ) → p < 2 + 4 * countIn image → Unmarked image p

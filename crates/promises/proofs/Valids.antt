@@ -127,8 +127,8 @@ module _ (image : List ℕ) (octets : Octets image) where
 
 -- ---- and one that obeys the rules is valid
 
-between : (low x high : ℕ) → (low ≤ x) × (x ≤ high) → (leb low x && leb x high) ≡ true
-between low x high h = ap₂ _&&_ (le-leb low x (h .0)) (le-leb x high (h .1))
+between-tested : (low x high : ℕ) → (low ≤ x) × (x ≤ high) → (leb low x && leb x high) ≡ true
+between-tested low x high h = ap₂ _&&_ (le-leb low x (h .0)) (le-leb x high (h .1))
 
 implied : (a b : Bool) → (a ≡ true → b ≡ true) → (not a || b) ≡ true
 implied true b h = h refl
@@ -184,15 +184,15 @@ module _ (image : List ℕ) (octets : Octets image) where
         (ap₂ _&&_
         (ap₂ _&&_
         (ap₂ _&&_
-        (ap₂ _&&_ (between 1 (serviceOf body) 2 (rw (service-at image i) (b .service)))
-        (between 1 (directionOf body) 2 (rw (direction-at image i) (b .direction))))
+        (ap₂ _&&_ (between-tested 1 (serviceOf body) 2 (rw (service-at image i) (b .service)))
+        (between-tested 1 (directionOf body) 2 (rw (direction-at image i) (b .direction))))
         (le-leb (stateOf body) 2 (rw (state-at image i) (b .state))))
         (kind-ok (versionOf image) (kindIn body) body (rw (kind-at image i) (b .kind))
         (rw (spacecraft-at image i, ← limits .mostSpacecraft, kind-at image i) (b .spacecraft))
         channel-ok
         (rw (map-at image i, ← limits .mostMap, kind-at image i) (b .map))
         (λ e. last-mask-at image i ∙ b .mask (sym (kind-at image i) ∙ e))))
-        (between 1 (windowOf body) 1024 (rw (window-at image i) (b .window))))
+        (between-tested 1 (windowOf body) 1024 (rw (window-at image i) (b .window))))
         (lt-ltb (markIn image i) (2 ^ 26) mark-fits)
 
 module _ (image : List ℕ) (octets : Octets image) (rules : ImageRules image) where
@@ -204,7 +204,7 @@ module _ (image : List ℕ) (octets : Octets image) (rules : ImageRules image) w
   unfolding entryOk
   entry-ok i h =
       ap₂ _&&_
-      (ap₂ _&&_ (between 1 (spiOf image i) 65534 (rules .spi i h)) (lt-ltb (spiBefore image i) (spiOf image i) (before-below i h)))
+      (ap₂ _&&_ (between-tested 1 (spiOf image i) 65534 (rules .spi i h)) (lt-ltb (spiBefore image i) (spiOf image i) (before-below i h)))
       (eq-eqb (positionOf image i) (bodyAt image i) (rules .position i h ∙ sym (stands image i 0) ∙ add-zero (bodyAt image i)))
 
   laid-ok : laidOut image ≡ true

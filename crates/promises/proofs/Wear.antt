@@ -25,7 +25,7 @@ use Rattle.promises.specs.Frames.{spiOn}
 use Rattle.promises.specs.Images.{countIn, spiAt, directionAt, lastAt}
 use Rattle.promises.specs.Runs.{Step, load, send, check, sendCut, checkCut, State, kept, after, ran}
 use Rattle.promises.specs.Runs.{Shown, restart, sent, released, shows, trace, sentIn}
-use Rattle.promises.specs.Wear.{madeBy, sendingMakes, checkMakes, makes, makesUnder, accepted, accepts, storesIn, loadsIn, Counted, Worn, Wear}
+use Rattle.promises.specs.Wear.{madeBy, sendingMakes, checkMakes, makes, makesUnder, loadAccepted, loadsBy, storesDuring, loadsDuring, Counted, Worn, Wear}
 use Rattle.promises.proofs.Effects.{Effect, quiet, loads, sends, frees, effect}
 use Rattle.promises.proofs.Keeps.{Inv, Keeps, loaded-image, loaded-last, load-inv, keeps}
 use Rattle.promises.proofs.Runs.{ran-keeps}
@@ -94,7 +94,7 @@ cut-less : (t : Bool) (j : ℕ) (l : List Store) → length (cond t (take j l) [
 cut-less true j l = omega (arith, length-take j l)
 cut-less false j l = omega arith
 
-load-accepted : (image any : List ℕ) → validImage image ≡ true → accepted (loaded image any) ≡ 1
+load-accepted : (image any : List ℕ) → validImage image ≡ true → loadAccepted (loaded image any) ≡ 1
 unfolding loaded
 load-accepted image any passed = rw passed refl
 
@@ -182,9 +182,9 @@ module _ (e : ℕ) (x : State) (inv : Inv x) (below : e < countIn (x .image)) (o
   -- 64 for each store, and what the last number leaves
   abbrev Grows : Step → Type 0
   Grows v =
-      64 * length (makesUnder e x v) + lastAt (after x v .numbers) e % 64 ≤ length (sentIn (shows e x v)) + 64 * accepts x v + n % 64
+      64 * length (makesUnder e x v) + lastAt (after x v .numbers) e % 64 ≤ length (sentIn (shows e x v)) + 64 * loadsBy x v + n % 64
 
-  cut-accepted : validImage s ≡ true → (v : Step) (t any : List ℕ) → after x v .image ≡ t → accepted (loaded t any) ≡ 1
+  cut-accepted : validImage s ≡ true → (v : Step) (t any : List ℕ) → after x v .image ≡ t → loadAccepted (loaded t any) ≡ 1
   cut-accepted passed v t any is = load-accepted t any (ap validImage (sym is) ∙ keeps x v inv .stays ∙ passed)
 
   -- a call shows a frame sent, or shows and stores nothing
@@ -210,7 +210,7 @@ module _ (e : ℕ) (x : State) (inv : Inv x) (below : e < countIn (x .image)) (o
   call-grows y stores shown f few (inr none) = omega (arith, still y shown f (none .0))
 
   step-grows : validImage s ≡ true → (v : Step) → Grows v
-  unfolding after shows makesUnder makes accepts sentIn secured checked checkedAs
+  unfolding after shows makesUnder makes loadsBy sentIn secured checked checkedAs
   step-grows passed (load any) = omega (arith, load-accepted s any passed)
   step-grows passed (send said spi frame output) =
       call-grows _ _ _ (effect e x (send said spi frame output) inv below) (send-cost said spi frame output)
@@ -277,9 +277,9 @@ sent-append (released n ∷ r) t = sent-append r t
 module _ (e : ℕ) where
   -- of a valid image
   grows : (vs : List Step) (x : State) → Inv x → e < countIn (x .image) → directionAt (x .image) e ≡ 1 → validImage (x .image) ≡ true
-      → 64 * storesIn e x vs + lastAt (ran x vs .numbers) e % 64
-      ≤ length (sentIn (trace e x vs)) + 64 * loadsIn x vs + lastAt (x .numbers) e % 64
-  unfolding ran trace storesIn loadsIn sentIn
+      → 64 * storesDuring e x vs + lastAt (ran x vs .numbers) e % 64
+      ≤ length (sentIn (trace e x vs)) + 64 * loadsDuring x vs + lastAt (x .numbers) e % 64
+  unfolding ran trace storesDuring loadsDuring sentIn
   grows [] x inv below one passed = omega arith
   grows (v ∷ vs) x inv below one passed =
       let k = keeps x v inv in
@@ -292,8 +292,8 @@ module _ (e : ℕ) where
       omega (arith, now, later, sent-append (shows e x v) (trace e y vs))
 
   -- of one that is not
-  none : (vs : List Step) (x : State) → Inv x → (validImage (x .image) ≡ true → ⊥) → storesIn e x vs ≡ 0
-  unfolding storesIn
+  none : (vs : List Step) (x : State) → Inv x → (validImage (x .image) ≡ true → ⊥) → storesDuring e x vs ≡ 0
+  unfolding storesDuring
   none [] x inv failed = refl
   none (v ∷ vs) x inv failed =
       let k = keeps x v inv in
@@ -310,7 +310,7 @@ module _ (e : ℕ) where
     ran₀ = ran-keeps steps x₀ inv₀
 
     worn-by : (t : Bool) → validImage image ≡ t → Worn e image numbers steps
-    unfolding ran after trace shows makesUnder accepts storesIn loadsIn sentIn
+    unfolding ran after trace shows makesUnder loadsBy storesDuring loadsDuring sentIn
     worn-by true passed =
         let y = ran x₀ steps in
         let below₀ : e < countIn (x₀ .image) = rw (loaded-image image numbers) below in

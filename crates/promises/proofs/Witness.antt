@@ -33,7 +33,7 @@ use Rattle.promises.specs.RoundTrip.{Released}
 use Rattle.promises.specs.Runs.{Shown, load, send, check, sendCut, after, ran, trace, shows, restart, sent, released, sentIn, begun}
 use Rattle.promises.specs.Runs.{shownOf}
 use Rattle.promises.specs.Upgrade.{Upgraded}
-use Rattle.promises.specs.Wear.{makes, makesUnder, accepts, storesIn, loadsIn, storesOf, framesOf, loadsOf}
+use Rattle.promises.specs.Wear.{makes, makesUnder, loadsBy, storesDuring, loadsDuring, storesOver, framesOver, loadsOver}
 use Rattle.promises.proofs.Answers.{nobody}
 use Rattle.promises.proofs.Computing.{everything}
 use Rattle.promises.proofs.Isolation.{isolation}
@@ -431,15 +431,15 @@ run-sends-by-sets = (refl, refl)
 
 -- the bound on stores is met: by a run of two frames, three loads and a cut, which makes a store at each
 pub run-wears : let steps = send (bare 1) 9 frameC room ∷ load [] ∷ sendCut (bare 1) 9 frameC room 1 [] ∷ send (bare 1) 9 frameC room ∷ [] in
-    (storesOf 0 imageB [] steps ≡ 3) × (framesOf 0 imageB [] steps ≡ 2) × (loadsOf imageB [] steps ≡ 3)
-unfolding everything trace shows after makes makesUnder accepts storesIn loadsIn sentIn
+    (storesOver 0 imageB [] steps ≡ 3) × (framesOver 0 imageB [] steps ≡ 2) × (loadsOver imageB [] steps ≡ 3)
+unfolding everything trace shows after makes makesUnder loadsBy storesDuring loadsDuring sentIn
 run-wears = (refl, refl, refl)
 
 -- and by 64 frames after one load, and one more sending that is cut after its store
 pub run-wears-on : let steps = replicate 64 (send (bare 1) 9 frameC room) in
     let next = makesUnder 0 (ran (begun imageB) (load [] ∷ steps)) (sendCut (bare 1) 9 frameC room 1 []) in
-    (storesOf 0 imageB [] steps + length next ≡ 2) × (framesOf 0 imageB [] steps ≡ 64) × (loadsOf imageB [] steps ≡ 1)
-unfolding everything trace shows after makes makesUnder accepts storesIn loadsIn sentIn ran
+    (storesOver 0 imageB [] steps + length next ≡ 2) × (framesOver 0 imageB [] steps ≡ 64) × (loadsOver imageB [] steps ≡ 1)
+unfolding everything trace shows after makes makesUnder loadsBy storesDuring loadsDuring sentIn ran
 run-wears-on = (refl, refl, refl)
 
 -- the frame of the first sending, released at the other end
@@ -490,9 +490,9 @@ besides version channel kind direction =
     ++ replicate 32 0x07
     ++ bytes 4 0x00000000
 
--- that of case B, sending or receiving
+-- that of case B, sending or receiving, in version 2
 abbrev twoProjects : ℕ → List ℕ
-twoProjects direction = besides 1 5 1 direction
+twoProjects direction = besides 2 5 1 direction
 
 abbrev twoNumbers : List ℕ
 twoNumbers = 100 ∷ 63 ∷ replicate 30 0
@@ -503,7 +503,7 @@ standing image numbers o v a =
     let octets = octets-of image o in
     record { octets = octets; valid = rules-kept image octets v; agree = agreement image numbers octets a }
 
--- one project's image and two projects', sending and receiving
+-- one project's image, of version 1, and two projects', sending and receiving
 one-sends : Standing imageB (oneNumber 63)
 unfolding everything
 one-sends = standing imageB (oneNumber 63) refl refl refl
@@ -526,7 +526,7 @@ unfolding everything
 same-sending =
     isolation .sending imageB (oneNumber 63) (twoProjects 1) twoNumbers (bare 1) 9 frameC room room one-sends two-send refl
     (both 0 1 (serving imageB 1 (bare 1) 9 frameC 0 (lit< tt) refl) (serving (twoProjects 1) 1 (bare 1) 9 frameC 1 (lit< tt) refl)
-    refl refl refl)
+    refl refl)
 
 pub same-check : let frame = out 1 5 1 5 1 (bare 1) frameC in
     SameAnswer (checked (receiver 100 0) (oneNumber 63) (bare 1) frame room) (checked (twoProjects 2) twoNumbers (bare 1) frame room)
@@ -536,7 +536,7 @@ same-check =
     let spi = spiOn (bare 1) frame in
     isolation .checking (receiver 100 0) (oneNumber 63) (twoProjects 2) twoNumbers (bare 1) frame room room one-receives two-receive refl
     (both 0 1 (serving (receiver 100 0) 2 (bare 1) spi frame 0 (lit< tt) refl) (serving (twoProjects 2) 2 (bare 1) spi frame 1 (lit< tt) refl)
-    refl refl refl)
+    refl refl)
 
 -- in version 2: a sending on channel 1 of the set of channels 1 and 5
 set-sends : Standing (imageWith 2 0x22 1 3 1 100 0) (oneNumber 63)
@@ -555,7 +555,7 @@ same-sending-by-sets =
     let two = besides 2 0x22 3 1 in
     isolation .sending one (oneNumber 63) two twoNumbers (bare 3) 9 otherFrame room room set-sends set-sends-besides refl
     (both 0 1 (serving one 1 (bare 3) 9 otherFrame 0 (lit< tt) refl) (serving two 1 (bare 3) 9 otherFrame 1 (lit< tt) refl)
-    refl refl refl)
+    refl refl)
 
 -- a sending under SPI 8 and a check at the ends that send: neither image has an entry for them
 pub neither-sends : SameAnswer (secured imageB (oneNumber 63) (bare 1) 8 frameC room) (secured (twoProjects 1) twoNumbers (bare 1) 8 frameC room)

@@ -15,7 +15,7 @@ use Rattle.judging.specs.Said.{Said}
 use Rattle.judging.specs.declared.answers.Answer.{Answer}
 use Rattle.judging.specs.declared.answers.Answer.the-variants as answer
 use Rattle.promises.specs.Forms.{formSaid}
-use Rattle.promises.specs.Images.{ImageRules, Agreeing, InWindow, Serves, serviceAt, windowAt, maskAt, keyAt, lastAt}
+use Rattle.promises.specs.Images.{ImageRules, Agreeing, InWindow, Serves, serviceAt, windowAt, maskAt, keyOctetsAt, lastAt}
 use Rattle.promises.specs.Frames.{FrameRules, RightField, headerSize, trailerSize, securitySize, spiOn, numberOn, textOn, macOn, rightMac}
 
 -- ---- the table: a refusal reports length 0 and 0 stores
@@ -86,7 +86,7 @@ checkingRules image numbers said frame output =
     let under : (ℕ → Type 0) → Type 0 = λ kept. (e : ℕ) → serves e → kept e in
     let least : ℕ → ℕ = λ e. headerSize said frame + securitySize (serviceAt image e) + 1 + 16 + trailerSize said frame in
     let text : ℕ → List ℕ = λ e. textOn (serviceAt image e) said frame in
-    let right : ℕ → List ℕ = λ e. rightMac (serviceAt image e) said (maskAt image e) (keyAt image e) frame in
+    let right : ℕ → List ℕ = λ e. rightMac (serviceAt image e) said (maskAt image e) (keyOctetsAt image e) frame in
     rule answer.BadImage (ImageRules image)
     (rule answer.BadMarks (Agreeing image numbers)
     (rule answer.BadFrame (FrameRules said frame 2)

@@ -61,8 +61,8 @@ windowAt image i = numberAt (place image i 8) 2 image
 abbrev pub maskAt : List ℕ → ℕ → List ℕ
 maskAt image i = part (place image i 10) 6 image
 
-abbrev pub keyAt : List ℕ → ℕ → List ℕ
-keyAt image i = part (place image i 16) 32 image
+abbrev pub keyOctetsAt : List ℕ → ℕ → List ℕ
+keyOctetsAt image i = part (place image i 16) 32 image
 
 -- the mark, as it is coded
 abbrev pub codeAt : List ℕ → ℕ → ℕ

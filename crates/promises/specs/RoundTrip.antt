@@ -13,7 +13,7 @@ use Rattle.link.specs.Calls.{Left, handed, secured, checked}
 use Rattle.judging.specs.Said.{Said}
 use Rattle.octets.specs.Lists.{Octets}
 use Rattle.promises.specs.Images.{countIn, spiAt, serviceAt, kindAt, directionAt, stateAt, spacecraftAt, mapAt}
-use Rattle.promises.specs.Images.{windowAt, maskAt, keyAt, lastAt, ServesChannel, ImageRules, Agreeing, InWindow}
+use Rattle.promises.specs.Images.{windowAt, maskAt, keyOctetsAt, lastAt, ServesChannel, ImageRules, Agreeing, InWindow}
 use Rattle.promises.specs.Forms.{formSaid}
 use Rattle.promises.specs.Frames.{dataInClear, numberOn}
 
@@ -25,7 +25,7 @@ pub record OtherEnd (said : Said) (frame here : List ℕ) (e : ℕ) (there numbe
   pub spi : spiAt there i ≡ spiAt here e
   pub service : serviceAt there i ≡ serviceAt here e
   pub kind : kindAt there i ≡ kindAt here e
-  pub key : keyAt there i ≡ keyAt here e
+  pub key : keyOctetsAt there i ≡ keyOctetsAt here e
   pub mask : maskAt there i ≡ maskAt here e
   pub spacecraft : spacecraftAt there i ≡ spacecraftAt here e
   pub channel : ServesChannel there i (formSaid said .channel frame)

@@ -55,35 +55,35 @@ makesUnder e x (checkCut said frame output j any) =
 
 -- ---- its loads that are accepted: a cut call is followed by one
 
-abbrev pub accepted : Left → ℕ
-accepted y = cond (eqb (y .answer) 0) 1 0
+abbrev pub loadAccepted : Left → ℕ
+loadAccepted y = cond (eqb (y .answer) 0) 1 0
 
-unfoldable pub accepts : State → Step → ℕ
-accepts x (load any) = accepted (loaded (x .image) any)
-accepts x (send said spi frame output) = 0
-accepts x (check said frame output) = 0
-accepts x (sendCut said spi frame output j any) = accepted (loaded (securedCut (x .image) (x .numbers) said spi frame output j) any)
-accepts x (checkCut said frame output j any) = accepted (loaded (checkedCut (x .image) (x .numbers) said frame output j) any)
+unfoldable pub loadsBy : State → Step → ℕ
+loadsBy x (load any) = loadAccepted (loaded (x .image) any)
+loadsBy x (send said spi frame output) = 0
+loadsBy x (check said frame output) = 0
+loadsBy x (sendCut said spi frame output j any) = loadAccepted (loaded (securedCut (x .image) (x .numbers) said spi frame output j) any)
+loadsBy x (checkCut said frame output j any) = loadAccepted (loaded (checkedCut (x .image) (x .numbers) said frame output j) any)
 
 -- ---- over a run
 
-unfoldable pub storesIn : ℕ → State → List Step → ℕ
-storesIn e x [] = 0
-storesIn e x (v ∷ vs) = length (makesUnder e x v) + storesIn e (after x v) vs
+unfoldable pub storesDuring : ℕ → State → List Step → ℕ
+storesDuring e x [] = 0
+storesDuring e x (v ∷ vs) = length (makesUnder e x v) + storesDuring e (after x v) vs
 
-unfoldable pub loadsIn : State → List Step → ℕ
-loadsIn x [] = 0
-loadsIn x (v ∷ vs) = accepts x v + loadsIn (after x v) vs
+unfoldable pub loadsDuring : State → List Step → ℕ
+loadsDuring x [] = 0
+loadsDuring x (v ∷ vs) = loadsBy x v + loadsDuring (after x v) vs
 
 -- of a run that begins with a load of an image: the stores under entry e, the frames handed out under it, and the accepted loads
-abbrev pub storesOf : ℕ → List ℕ → List ℕ → List Step → ℕ
-storesOf e image numbers steps = storesIn e (begun image) (load numbers ∷ steps)
+abbrev pub storesOver : ℕ → List ℕ → List ℕ → List Step → ℕ
+storesOver e image numbers steps = storesDuring e (begun image) (load numbers ∷ steps)
 
-abbrev pub framesOf : ℕ → List ℕ → List ℕ → List Step → ℕ
-framesOf e image numbers steps = length (sentIn (shownOf e image numbers steps))
+abbrev pub framesOver : ℕ → List ℕ → List ℕ → List Step → ℕ
+framesOver e image numbers steps = length (sentIn (shownOf e image numbers steps))
 
-abbrev pub loadsOf : List ℕ → List ℕ → List Step → ℕ
-loadsOf image numbers steps = loadsIn (begun image) (load numbers ∷ steps)
+abbrev pub loadsOver : List ℕ → List ℕ → List Step → ℕ
+loadsOver image numbers steps = loadsDuring (begun image) (load numbers ∷ steps)
 
 -- ---- the promise
 
@@ -97,9 +97,9 @@ pub record Counted : Type 0 where
 
 -- after the run, and with the stores of one more call, of which nothing else is counted
 pub record Worn (e : ℕ) (image numbers : List ℕ) (steps : List Step) : Type 0 where
-  pub after : storesOf e image numbers steps ≤ framesOf e image numbers steps / 64 + loadsOf image numbers steps
+  pub after : storesOver e image numbers steps ≤ framesOver e image numbers steps / 64 + loadsOver image numbers steps
   pub during : (v : Step) → let x = ran (begun image) (load numbers ∷ steps) in
-      storesOf e image numbers steps + length (makesUnder e x v) ≤ framesOf e image numbers steps / 64 + loadsOf image numbers steps
+      storesOver e image numbers steps + length (makesUnder e x v) ≤ framesOver e image numbers steps / 64 + loadsOver image numbers steps
 
 pub record Wear : Type 0 where
   pub counted : Counted

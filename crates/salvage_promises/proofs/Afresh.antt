@@ -14,9 +14,9 @@ use lib.Seq.{getD-append-add, getD-drop}
 use Rattle.octets.specs.Lists.{octet, part, Octets}
 use Rattle.octets.specs.Numbers.{number, numberAt, bytes}
 use Rattle.octets.proofs.Alls.{and-right, all-every}
-use Rattle.octets.proofs.Bounds.{octets-cons, octets-append}
+use Rattle.octets.proofs.Bounds.{octets-cons, octets-append, octets-tab}
 use Rattle.octets.proofs.Numbers.{number-same, number-bytes, length-bytes, octets-bytes}
-use Rattle.octets.proofs.Parts.{octet-part, octets-part}
+use Rattle.octets.proofs.Parts.{octet-part}
 use Rattle.octets.proofs.Rules.{tab-ext}
 use Rattle.bodies.specs.Body.{bodyIn, bodyOk}
 use Rattle.bodies.specs.Layout.{layoutOf}
@@ -34,6 +34,10 @@ use Rattle.salvage_image.proofs.Sizes.{Taken, few}
 -- a kept entry is as it is asked of it
 pub kept-good : (x : List ℕ) (i : ℕ) → isKept x i ≡ true → Good x i
 kept-good x i k = good x (keptAmong x i) i (and-right (ltb i (countOf x)) (keepable x (keptAmong x i) i) (sym (in-order x i) ∙ k))
+
+octets-part : (at n : ℕ) (s : List ℕ) → Octets s → Octets (part at n s)
+unfolding part
+octets-part at n s hs = octets-tab n _ (λ i h. hs (at + i))
 
 -- the number that k octets at a place make, if they are those of a list
 numberAt-is : (at k : ℕ) (s t : List ℕ) → ((r : ℕ) → r < k → octet s (at + r) ≡ octet t r) → numberAt at k s ≡ number k t

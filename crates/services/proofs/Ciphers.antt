@@ -33,9 +33,9 @@ rightly verdict.Right = true
 rightly verdict.Wrong = false
 rightly verdict.TooLong = false
 
-judgement : (b : Bool) → b ≡ rightly (cond b verdict.Right verdict.Wrong)
-judgement true = refl
-judgement false = refl
+rightly-told : (b : Bool) → b ≡ rightly (cond b verdict.Right verdict.Wrong)
+rightly-told true = refl
+rightly-told false = refl
 
 module _ (h : Held) (security : List ℕ) (two : h .service ≡ 2) (long : length security ≡ securityLength h) (iv : List ℕ)
     (read : iv ≡ part 2 12 security) where
@@ -56,7 +56,7 @@ module _ (h : Held) (security : List ℕ) (two : h .service ≡ 2) (long : lengt
         → same (macUnder h security before text) mac ≡ rightly (checkedUnder w iv before text mac)
     judging w expanded text mac lt =
         rw (encrypts (h .service) two, macUnder, iv-read, expanded, allowed before text (omega arith) (omega arith))
-        (judgement (same (tag (h .key) (drop 2 security) before text) mac))
+        (rightly-told (same (tag (h .key) (drop 2 security) before text) mac))
 
   pub releasing : (w : List ℕ) → w ≡ keyExpansion (h .key) → (text out : List ℕ) → length text ≤ 2048 → length text ≤ length out
       → decryptedUnder w iv text out ≡ call answer.Done (written (clearUnder h security text) out)

@@ -7,7 +7,7 @@ ghost use Rattle.writing.specs.Output.{Put};
 ghost use Rattle.writing.specs.Text.{digits, decimal};
 
 // The last digit of a number, from 48, the character 0, on.
-fn digit(n: u32) -> u8
+fn last_digit(n: u32) -> u8
     ensures { λ r. ⌜ r ≡ 48 + n % 10 ⌝ }
 {
     48 + (n % 10) as u8
@@ -22,10 +22,10 @@ fn put_digits(out: &mut [u8], at: usize, most: usize, n: u32) -> usize
         return at;
     }
     if n < 10 {
-        return put_octet(out, at, digit(n));
+        return put_octet(out, at, last_digit(n));
     }
     let last = put_digits(out, at, most - 1, n / 10);
-    put_octet(out, last, digit(n))
+    put_octet(out, last, last_digit(n))
 }
 
 pub fn put_decimal(out: &mut [u8], at: usize, n: u32) -> usize

@@ -1,4 +1,5 @@
 // Writing to an output: an octet or a text at a place, and a whole text to the front.
+use octets::put;
 ghost use mathlib.Core.Path.{_≡_};
 ghost use mathlib.Core.List.{[], _∷_};
 ghost use Prim.Native.Nat.{_+_, _<_, _≤_};
@@ -41,12 +42,8 @@ pub fn copy_front(text: &[u8], out: &mut [u8]) -> Written
     if out.len() < text.len() {
         return Written::NoRoom;
     }
-    let mut i: usize = 0;
-    while i < text.len() {
-        out[i] = text[i];
-        i += 1;
-    }
-    Written::Text(i)
+    put(text, out);
+    Written::Text(text.len())
 }
 
 fn front(s: &[u8], n: usize) -> &[u8]

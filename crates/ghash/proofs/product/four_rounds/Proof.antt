@@ -4,14 +4,14 @@ use borrow.Author.Needs.{needs}
 use native.Mathlib.Omega.{arith}
 use mathlib.Core.Path.{_≡_, refl, sym, _∙_}
 use Prim.Native.Nat.{_≤_}
-use Rattle.ghash.specs.Product.{rounds}
+use Rattle.ghash.specs.Product.{productRounds}
 use Rattle.block.specs.Halves.{value}
 use Rattle.ghash.proofs.Linear.{rounds-one, rounds-none}
 use Rattle.ghash.proofs.product.four_rounds.Statement.{statement}
 use Rattle.ghash.proofs.product.four_rounds.Tie as tie
 
 abbrev Inv-loop : tie.InvT-loop
-Inv-loop x z₀ v₀ k₀ z v k = (k ≤ 4) × (rounds k x (value z) (value v) ≡ rounds 4 x 0 (value v₀))
+Inv-loop x z₀ v₀ k₀ z v k = (k ≤ 4) × (productRounds k x (value z) (value v) ≡ productRounds 4 x 0 (value v₀))
 
 abbrev μ-loop : tie.MeasureT-loop
 μ-loop x z₀ v₀ k₀ z v k = k

@@ -4,7 +4,7 @@ use borrow.Author.Needs.{needs}
 use native.Mathlib.Omega.{arith}
 use mathlib.Core.Path.{_≡_, refl, ap, _∙_}
 use Prim.Native.Nat.{ℕ, _≤_, _-_, _%_}
-use Rattle.ghash.specs.Product.{rounds, _•_}
+use Rattle.ghash.specs.Product.{productRounds, _•_}
 use Rattle.block.specs.Halves.{value}
 use Rattle.ghash.specs.Table.{entry, IsTableOf}
 use Rattle.ghash.proofs.Linear.{rounds-four}
@@ -12,13 +12,13 @@ use Rattle.ghash.proofs.product.multiply.Statement.{statement}
 use Rattle.ghash.proofs.product.multiply.Tie as tie
 
 abbrev Inv-loop : tie.InvT-loop
-Inv-loop x t z₀ k₀ z k = (k ≤ 128) × (k % 4 ≡ 0) × ((h : ℕ) → IsTableOf h t → value z ≡ rounds k (value x) 0 h)
+Inv-loop x t z₀ k₀ z k = (k ≤ 128) × (k % 4 ≡ 0) × ((h : ℕ) → IsTableOf h t → value z ≡ productRounds k (value x) 0 h)
 
 abbrev μ-loop : tie.MeasureT-loop
 μ-loop x t z₀ k₀ z k = 128 - k
 
 loop-holds : tie.Need-loop-holds Inv-loop μ-loop
-unfolding rounds
+unfolding productRounds
 loop-holds c = (omega arith, refl, λ h is. refl)
 
 loop-again : tie.Need-loop-again Inv-loop μ-loop
@@ -39,7 +39,7 @@ returns c h is =
     let at-loop = c .before .loop in
     let x = value (c .before .before .args .x) in
     let e : at-loop .k ≡ 128 = omega arith in
-    at-loop .inv .2 h is ∙ ap (λ (k : ℕ). rounds k x 0 h) e
+    at-loop .inv .2 h is ∙ ap (λ (k : ℕ). productRounds k x 0 h) e
 
 pub multiply-spec : {M : Type 1} → statement M
 multiply-spec =

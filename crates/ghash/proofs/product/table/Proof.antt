@@ -5,7 +5,7 @@ use native.Mathlib.Omega.{arith}
 use mathlib.Core.Path.{_≡_, refl}
 use Prim.Native.Nat.{ℕ, _≤_, _<_, _-_}
 use lib.ListN.{length, length-set}
-use Rattle.ghash.specs.Product.{rounds}
+use Rattle.ghash.specs.Product.{productRounds}
 use Rattle.block.specs.Halves.{value}
 use Rattle.ghash.specs.Table.{entry}
 use Rattle.ghash.proofs.Linear.{entries-more}
@@ -13,7 +13,7 @@ use Rattle.ghash.proofs.product.table.Statement.{statement}
 use Rattle.ghash.proofs.product.table.Tie as tie
 
 abbrev Inv-loop : tie.InvT-loop
-Inv-loop h t₀ n₀ t n = (n ≤ 16) × (length t ≡ 32) × ((m : ℕ) → m < n → entry t m ≡ rounds 4 m 0 (value h))
+Inv-loop h t₀ n₀ t n = (n ≤ 16) × (length t ≡ 32) × ((m : ℕ) → m < n → entry t m ≡ productRounds 4 m 0 (value h))
 
 abbrev μ-loop : tie.MeasureT-loop
 μ-loop h t₀ n₀ t n = 16 - n

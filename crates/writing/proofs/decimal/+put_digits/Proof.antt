@@ -1,7 +1,7 @@
 -- `put_digits` is right because it goes as the definition goes: a digit alone, or behind the digits of n / 10, which are one fewer at most.
 -- Assumes nothing.
 use mathlib.Core.Path.{_≡_, ap}
-use Prim.Native.Nat.{ℕ, _+_, _<_}
+use Prim.Native.Nat.{ℕ, _<_}
 use native.Mathlib.Omega.{arith}
 use lib.ListN.{length}
 use borrow.Author.Needs.{needs}
@@ -11,7 +11,7 @@ use Rattle.writing.specs.Text.{digits}
 use Rattle.writing.proofs.Decimals.{digits-none, digits-one, digits-more, digits-longer}
 use Rattle.writing.proofs.Puts.{put-none, put-then}
 use Rattle.writing.proofs.output.put_octet.Reads as put-octet
-use Rattle.writing.proofs.decimal.digit.Reads as digit
+use Rattle.writing.proofs.decimal.last_digit.Reads as last-digit
 use Rattle.writing.proofs.decimal.put_digits.Reads as put-digits
 use Rattle.writing.proofs.decimal.put_digits.Kinds.{ps}
 use Rattle.writing.proofs.decimal.+put_digits.Lts-put_digits as lts
@@ -29,7 +29,7 @@ abbrev below : ℕ → In 1 ps
 below t = and 1 ps (falls 1 ps _<_ μ t) put-digits.Pre
 
 abbrev claims : ℕ → lts.Claims
-claims t = (digit.Asked, digit.Learnt, put-octet.Asked, put-octet.Learnt, below t, put-digits.Post)
+claims t = (last-digit.Asked, last-digit.Learnt, put-octet.Asked, put-octet.Learnt, below t, put-digits.Post)
 
 returns : (t : ℕ) → lts.Need-returns (claims t) (given t) put-digits.Post
 returns t c =
@@ -46,7 +46,7 @@ returns-2 : (t : ℕ) → lts.Need-returns-2 (claims t) (given t) put-digits.Pos
 returns-2 t c =
     let put = c .before .before in
     let g = put .before .before .before .before .before .before .args in
-    rw (digits-one (g .most) (g .n) (omega arith) (omega arith), ← put .before .digit .ensures) (put .put-octet .ensures)
+    rw (digits-one (g .most) (g .n) (omega arith) (omega arith), ← put .before .last-digit .ensures) (put .put-octet .ensures)
 
 put-digits-requires : (t : ℕ) → lts.Need-put-digits-requires (claims t) (given t) put-digits.Post
 put-digits-requires t c κs =
@@ -63,7 +63,7 @@ returns-3 t c =
     let put = c .before .before in
     let front = put .before .before .before .before .before in
     let g = front .before .before .before .before .before .args in
-    rw (digits-more (g .most) (g .n) (omega arith) (omega arith), ← put .before .digit2 .ensures)
+    rw (digits-more (g .most) (g .n) (omega arith) (omega arith), ← put .before .last-digit2 .ensures)
     (put-then (front .put-digits .ensures) (put .put-octet2 .ensures))
 
 pub +put-digits-spec : {M : Type 1} → statement M
