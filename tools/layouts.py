@@ -536,7 +536,7 @@ def layers():
     p = Picture("layers", "The crates: each stands on those that its arrows point to")
     p.text(24, 26, p.title, 16, "start", "bold")
     p.note(46, "An arrow that follows from others is left out.", 24)
-    high, pitch, most = 48, 76, 10
+    high, pitch, most = 48, 76, 11
     boxes = {
         "octets": (24, 0, 686, FIXED, "lists of octets, numbers, copying, and their laws"),
         "substitution": (24, 1, 112, MAC, "S-box"),
@@ -560,6 +560,7 @@ def layers():
         "judging": (24, 8, 566, DATA, "the tests of a call, in their order"),
         "link": (24, 9, 566, DATA, "load, secure, check: judged, then carried out"),
         "promises": (24, 10, 270, FREE, "theorems alone"),
+        "witnesses": (24, 11, 270, FREE, "that they are not empty"),
         "link_c": (320, 10, 270, FREE, "the C interface"),
     }
     programs = {
@@ -572,7 +573,7 @@ def layers():
         "lines": (1, "lines of text for them"),
     }
     arrows = [
-        ("promises", "link", 159), ("link_c", "link", 455), ("link", "judging", 307), ("judging", "protection", 307),
+        ("witnesses", "promises", 159), ("promises", "link", 159), ("link_c", "link", 455), ("link", "judging", 307), ("judging", "protection", 307),
         ("protection", "services", 184), ("protection", "frame", 437), ("services", "cmac", 80), ("services", "gcm", 244),
         ("association", "image", 616), ("image", "bodies", 616), ("bodies", "kinds", 537),
         ("bodies", "marks", 638), ("frame", "kinds", 437), ("kinds", "headers", 437), ("gcm", "gctr", 194), ("gcm", "ghash", 298),

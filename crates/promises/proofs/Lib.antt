@@ -21,4 +21,3 @@ pub mod Upgrade
 pub mod Used
 pub mod Valids
 pub mod Wear
-pub mod Witness
