@@ -1,4 +1,5 @@
--- What the layers above rest on: AES-256 under an expanded key, the length of a block, and that its numbers are octets.
+-- What the layers above rest on: AES-256 under an expanded key, the rounds that it is made of, the length of a block, and that its numbers are
+-- octets.
 -- Assumes nothing.
 use mathlib.Core.Path.{_≡_, _∙_, sym, ap}
 use mathlib.Core.List.{List}
@@ -9,13 +10,19 @@ use Rattle.octets.proofs.Rules.{length-tab}
 use Rattle.key_schedule.specs.KeyExpansion.{keyExpansion}
 use Rattle.key_schedule.proofs.Laws.{octets-keyExpansion}
 use Rattle.cipher.specs.AddRoundKey.{addRoundKey}
-use Rattle.cipher.specs.Cipher.{cipher, aes256}
+use Rattle.cipher.specs.ShiftRows.{shiftRows}
+use Rattle.cipher.specs.SubBytes.{subBytes}
+use Rattle.cipher.specs.Cipher.{rounds, cipher, aes256}
 use Rattle.cipher.specs.Cipher.Opened.{cipher-is, aes256-is}
 use Rattle.cipher.proofs.Small.{octets-subBytes, octets-shiftRows, octets-addRoundKey}
 
 -- a key is expanded once, for any number of blocks
 pub under-expanded : (key block : List ℕ) → cipher (keyExpansion key) block ≡ aes256 key block
 under-expanded key block = sym (aes256-is key block)
+
+-- for another engine: the rounds of figure 5
+pub cipher-by-rounds : (w block : List ℕ) → cipher w block ≡ addRoundKey w 14 (shiftRows (subBytes (rounds w 13 (addRoundKey w 0 block))))
+cipher-by-rounds w block = cipher-is w block
 
 -- under any expansion, and under a key
 pub length-cipher : (w block : List ℕ) → length (cipher w block) ≡ 16
