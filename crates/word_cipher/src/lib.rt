@@ -15,7 +15,7 @@ ghost use Rattle.word_tables.specs.Tables.{IsTables};
 ghost use Rattle.cipher.specs.Cipher.{cipher, aes256};
 
 // The block under an expanded key (5.1). The last round, which has no MixColumns, goes by the substitution table.
-pub fn encrypt_block(tables: &[u32; 1024], expanded: &[u8; 240], block: [u8; 16]) -> [u8; 16]
+pub fn encrypt_block(tables: &[u32], expanded: &[u8; 240], block: [u8; 16]) -> [u8; 16]
     requires { ⌜ IsTables (now tables) ⌝ }
     ensures { λ r. ⌜ r ≡ cipher (now (expanded .entry)) block ⌝ }
 {

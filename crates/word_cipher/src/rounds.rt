@@ -17,7 +17,7 @@ ghost use Rattle.columns.specs.Columns.{Column, stateOf};
 ghost use Rattle.word_cipher.specs.Diagonal.{diagonal};
 
 // SubBytes and MixColumns: the product by a(x) of a column is the sum of those of its rows, each of which is in a table.
-fn mixed_column(tables: &[u32; 1024], a: u32, b: u32, c: u32, d: u32) -> u32
+fn mixed_column(tables: &[u32], a: u32, b: u32, c: u32, d: u32) -> u32
     requires { ⌜ IsTables (now tables) ⌝ }
     ensures { λ r. ⌜ Column r (λ i. octet (mixer ⊗ diagonal a b c d) i) ⌝ }
 {
@@ -28,7 +28,7 @@ fn mixed_column(tables: &[u32; 1024], a: u32, b: u32, c: u32, d: u32) -> u32
 }
 
 // SubBytes, ShiftRows and MixColumns.
-pub(crate) fn mixed(tables: &[u32; 1024], v: [u32; 4]) -> [u32; 4]
+pub(crate) fn mixed(tables: &[u32], v: [u32; 4]) -> [u32; 4]
     requires { ⌜ IsTables (now tables) ⌝ }
     ensures { λ r. ⌜ stateOf r ≡ mixColumns (shiftRows (subBytes (stateOf v))) ⌝ }
 {

@@ -6,6 +6,7 @@ use mathlib.Core.List.{List}
 use Prim.Native.Nat.{ℕ, _+_, _-_, _*_, _%_}
 use borrow.Author.Tests.{eqb-true}
 use lib.Dec.{eqb}
+use lib.ListN.{length}
 use Rattle.octets.specs.Lists.{octet, all}
 use Rattle.octets.proofs.Alls.{all-at}
 use Rattle.substitution.specs.Field.{_•_}
@@ -25,10 +26,11 @@ rightWords t b s = all 4 (λ j. rightWord j s (octet t (256 * j + b)))
 unfoldable pub rightTables : List ℕ → Bool
 rightTables t = all 256 (λ b. rightWords t b (sbox b))
 
-pub are-tables : (t : List ℕ) → rightTables t ≡ true → IsTables t
+pub are-tables : (t : List ℕ) → length t ≡ 1024 → rightTables t ≡ true → IsTables t
 unfolding rightTables rightWords rightWord
-are-tables t e =
+are-tables t long e =
     record {
+      long = long;
       entry =
           λ j b r hj hb hr.
           eqb-true _ _ (all-at 4 _ (all-at 4 _ (all-at 256 (λ b. rightWords t b (sbox b)) e b hb) j hj) r hr);

@@ -28,7 +28,7 @@ loop-again c = (search needs, rw add-one (cc (add-one (c .before .before .before
 returns : tie.Need-returns Inv-loop μ-loop
 returns c =
     let e : c .before .before .before .before .before .loop .n ≡ 13 = omega arith in
-    let given = c .before .before .before .before .before .before .before .before .before .args in
+    let given = c .before .before .before .before .before .before .before .before .before .before .args in
     cc (cipher-by-rounds (given .expanded .now) (given .block))
 
 pub encrypt-block-spec : {M : Type 1} → statement M

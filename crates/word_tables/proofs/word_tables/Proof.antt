@@ -10,7 +10,7 @@ use Rattle.word_tables.proofs.word_tables.Tie as tie
 
 returns : tie.Need-returns
 unfolding all rightWord rightWords rightTables sbox affine ofBits inverse squares _•_ mulBits xtime
-returns c = are-tables _ refl
+returns c = are-tables _ refl refl
 
 pub word-tables-spec : {M : Type 1} → statement M
 word-tables-spec =
