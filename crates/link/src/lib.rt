@@ -13,8 +13,10 @@ use judging::admit_receiving;
 use judging::admit_sending;
 use outcome::refused;
 use securing::secure_under;
+use word_tables::word_tables;
 ghost use mathlib.Core.List.{[]};
 ghost use mathlib.Core.Path.{_≡_};
+ghost use Rattle.engines.specs.Lent.{Lent};
 ghost use Rattle.judging.specs.Said.{saying};
 ghost use Rattle.link.specs.Calls.{leaving, loaded, secured, checked};
 pub use judging::Answer;
@@ -37,7 +39,30 @@ pub fn load(image: &[u8], numbers: Numbers) -> Outcome
     }
 }
 
-// The secured frame of a clear one to the front of the output, under the association that the SPI names.
+// The secured frame of a clear one to the front of the output, under the association that the SPI names. The tables say which engine makes
+// the blocks of the cipher.
+fn secure_by(
+    tables: &[u32],
+    image: &mut [u8],
+    numbers: Numbers,
+    kind: u8,
+    spi: u16,
+    frame: &[u8],
+    output: &mut [u8],
+) -> Outcome
+    requires { ⌜ Lent (now tables) ⌝ }
+    ensures { λ r. ⌜ leaving r (now (image .exit)) (now (output .exit)) ≡ secured (now (image .entry)) (numbers .last) (saying kind) spi (now (frame .entry)) (now (output .entry)) ⌝ }
+{
+    let admission = admit_sending(image, numbers, kind, spi, frame);
+    match admission {
+        Admission::Refused(answer) => refused(answer, numbers),
+        Admission::To(kind, entry) => {
+            secure_under(tables, image, numbers, kind, entry, spi, frame, output)
+        }
+    }
+}
+
+// On board: by the engine on octets, which takes little stack.
 pub fn secure(
     image: &mut [u8],
     numbers: Numbers,
@@ -48,16 +73,45 @@ pub fn secure(
 ) -> Outcome
     ensures { λ r. ⌜ leaving r (now (image .exit)) (now (output .exit)) ≡ secured (now (image .entry)) (numbers .last) (saying kind) spi (now (frame .entry)) (now (output .entry)) ⌝ }
 {
-    let admission = admit_sending(image, numbers, kind, spi, frame);
+    secure_by(&[], image, numbers, kind, spi, frame, output)
+}
+
+// At the ground station: by the engine on words, whose tables lie on the stack of the call.
+pub fn ground_secure(
+    image: &mut [u8],
+    numbers: Numbers,
+    kind: u8,
+    spi: u16,
+    frame: &[u8],
+    output: &mut [u8],
+) -> Outcome
+    ensures { λ r. ⌜ leaving r (now (image .exit)) (now (output .exit)) ≡ secured (now (image .entry)) (numbers .last) (saying kind) spi (now (frame .entry)) (now (output .entry)) ⌝ }
+{
+    let tables = word_tables();
+    secure_by(&tables, image, numbers, kind, spi, frame, output)
+}
+
+// The clear data of a secured frame to the front of the output, under the association that the frame's SPI names.
+fn check_by(
+    tables: &[u32],
+    image: &mut [u8],
+    numbers: Numbers,
+    kind: u8,
+    frame: &[u8],
+    output: &mut [u8],
+) -> Outcome
+    requires { ⌜ Lent (now tables) ⌝ }
+    ensures { λ r. ⌜ leaving r (now (image .exit)) (now (output .exit)) ≡ checked (now (image .entry)) (numbers .last) (saying kind) (now (frame .entry)) (now (output .entry)) ⌝ }
+{
+    let admission = admit_receiving(image, numbers, kind, frame);
     match admission {
         Admission::Refused(answer) => refused(answer, numbers),
         Admission::To(kind, entry) => {
-            secure_under(image, numbers, kind, entry, spi, frame, output)
+            check_under(tables, image, numbers, kind, entry, frame, output)
         }
     }
 }
 
-// The clear data of a secured frame to the front of the output, under the association that the frame's SPI names.
 pub fn check(
     image: &mut [u8],
     numbers: Numbers,
@@ -67,9 +121,18 @@ pub fn check(
 ) -> Outcome
     ensures { λ r. ⌜ leaving r (now (image .exit)) (now (output .exit)) ≡ checked (now (image .entry)) (numbers .last) (saying kind) (now (frame .entry)) (now (output .entry)) ⌝ }
 {
-    let admission = admit_receiving(image, numbers, kind, frame);
-    match admission {
-        Admission::Refused(answer) => refused(answer, numbers),
-        Admission::To(kind, entry) => check_under(image, numbers, kind, entry, frame, output),
-    }
+    check_by(&[], image, numbers, kind, frame, output)
+}
+
+pub fn ground_check(
+    image: &mut [u8],
+    numbers: Numbers,
+    kind: u8,
+    frame: &[u8],
+    output: &mut [u8],
+) -> Outcome
+    ensures { λ r. ⌜ leaving r (now (image .exit)) (now (output .exit)) ≡ checked (now (image .entry)) (numbers .last) (saying kind) (now (frame .entry)) (now (output .entry)) ⌝ }
+{
+    let tables = word_tables();
+    check_by(&tables, image, numbers, kind, frame, output)
 }

@@ -17,6 +17,7 @@ ghost use lib.ListN.{length, set};
 ghost use Rattle.octets.specs.Output.{written};
 ghost use Rattle.kinds.specs.Kinds.{kindIs};
 ghost use Rattle.frame.specs.Rules.{obeys};
+ghost use Rattle.engines.specs.Lent.{Lent};
 ghost use Rattle.marks.specs.Stores.{storesIn};
 ghost use Rattle.protection.specs.Protection.{securedFrame};
 ghost use Rattle.protection.specs.Steps.{Securable};
@@ -26,6 +27,7 @@ ghost use Rattle.link.specs.Steps.{sendingReply};
 
 // The frame goes out behind its stores: `made` is how many of them were made, and has to be all.
 fn hand_out(
+    tables: &[u32],
     grant: Grant,
     made: u32,
     numbers: Numbers,
@@ -35,17 +37,19 @@ fn hand_out(
     frame: &[u8],
     output: &mut [u8],
 ) -> Outcome
+    requires { ⌜ Lent (now tables) ⌝ }
     requires { ⌜ made ≡ storesIn (grant .plan) ⌝ }
     requires { ⌜ Securable held (kindIs kind) (now frame) (length (now output)) ⌝ }
     ensures { λ r. ⌜ (reported (r .answer) ≡ granted (grant .size) (storesIn (grant .plan))) × (r .numbers .last ≡ set (numbers .last) (grant .entry) (grant .number)) ⌝ }
     ensures { λ _. ⌜ now (output .exit) ≡ written (securedFrame held (kindIs kind) spi (grant .number) (now (frame .entry))) (now (output .entry)) ⌝ }
 {
-    write_secured(kind, held, spi, grant.number, frame, output);
+    write_secured(tables, kind, held, spi, grant.number, frame, output);
     carried_out(grant, made, numbers)
 }
 
 // Under the entry that matches: judged, and then carried out.
 pub(crate) fn secure_under(
+    tables: &[u32],
     image: &mut [u8],
     numbers: Numbers,
     kind: Kind,
@@ -54,6 +58,7 @@ pub(crate) fn secure_under(
     frame: &[u8],
     output: &mut [u8],
 ) -> Outcome
+    requires { ⌜ Lent (now tables) ⌝ }
     requires { ⌜ obeys (kindIs kind) (now frame) false ≡ true ⌝ }
     ensures { λ r. ⌜ leaving r (now (image .exit)) (now (output .exit)) ≡ left (sendingReply (now (image .entry)) (numbers .last) entry (kindIs kind) spi (now (frame .entry)) (length (now (output .entry)))) (now (image .entry)) (numbers .last) (now (output .entry)) ⌝ }
 {
@@ -65,7 +70,7 @@ pub(crate) fn secure_under(
         Verdict::Granted(grant) => {
             let plan = grant.plan;
             let made = make_all(image, plan);
-            hand_out(grant, made, numbers, kind, held, spi, frame, output)
+            hand_out(tables, grant, made, numbers, kind, held, spi, frame, output)
         }
     }
 }

@@ -16,6 +16,7 @@ ghost use lib.ListN.{length, take, drop};
 ghost use Rattle.kinds.specs.Kinds.{kindIs};
 ghost use Rattle.frame.specs.Parts.{headerOf};
 ghost use Rattle.octets.specs.Output.{written};
+ghost use Rattle.engines.specs.Lent.{Lent};
 ghost use Rattle.services.specs.SecurityHeader.{securityLength};
 ghost use Rattle.protection.specs.Protection.{coveredIn, securedFrame};
 ghost use Rattle.services.specs.Steps.{textUnder, macUnder};
@@ -34,7 +35,15 @@ fn write_headers(kind: Kind, size: usize, security: &[u8], frame: &[u8], output:
 
 // The data as it goes out, behind the headers that stand in the output, and its MAC. What the MAC covers before the data is read from the
 // output, where the length is rewritten already.
-fn write_text(kind: Kind, held: Held, security: &[u8], clear: &[u8], output: &mut [u8]) -> [u8; 16]
+fn write_text(
+    tables: &[u32],
+    kind: Kind,
+    held: Held,
+    security: &[u8],
+    clear: &[u8],
+    output: &mut [u8],
+) -> [u8; 16]
+    requires { ⌜ Lent (now tables) ⌝ }
     requires { ⌜ (length (now security) ≡ securityLength held) × (length (now clear) ≤ 2048) × (kindIs kind .header (now output) + securityLength held + length (now clear) ≤ length (now output)) ⌝ }
     ensures { λ r. ⌜ r ≡ macUnder held (now (security .entry)) (coveredIn held (kindIs kind) (now (output .entry))) (textUnder held (now (security .entry)) (now (clear .entry))) ⌝ }
     ensures { λ _. ⌜ now (output .exit) ≡ take (kindIs kind .header (now (output .entry)) + securityLength held) (now (output .entry)) ++ written (textUnder held (now (security .entry)) (now (clear .entry))) (drop (kindIs kind .header (now (output .entry)) + securityLength held) (now (output .entry))) ⌝ }
@@ -43,6 +52,7 @@ fn write_text(kind: Kind, held: Held, security: &[u8], clear: &[u8], output: &mu
     let mut before: [u8; 20] = [0; 20];
     let covered = cover(kind, mask, security.len(), output, &mut before);
     protect(
+        tables,
         held,
         security,
         &before[..covered],
@@ -51,8 +61,17 @@ fn write_text(kind: Kind, held: Held, security: &[u8], clear: &[u8], output: &mu
     )
 }
 
-// The secured frame of a clear one.
-pub fn write_secured(kind: Kind, held: Held, spi: u16, n: u32, frame: &[u8], output: &mut [u8])
+// The secured frame of a clear one. The tables say which engine makes the blocks of the cipher.
+pub fn write_secured(
+    tables: &[u32],
+    kind: Kind,
+    held: Held,
+    spi: u16,
+    n: u32,
+    frame: &[u8],
+    output: &mut [u8],
+)
+    requires { ⌜ Lent (now tables) ⌝ }
     requires { ⌜ Securable held (kindIs kind) (now frame) (length (now output)) ⌝ }
     ensures { λ _. ⌜ now (output .exit) ≡ written (securedFrame held (kindIs kind) spi n (now (frame .entry))) (now (output .entry)) ⌝ }
 {
@@ -70,7 +89,14 @@ pub fn write_secured(kind: Kind, held: Held, spi: u16, n: u32, frame: &[u8], out
         frame,
         output,
     );
-    let mac = write_text(kind, held, &octets[..long], &frame[header..content], output);
+    let mac = write_text(
+        tables,
+        kind,
+        held,
+        &octets[..long],
+        &frame[header..content],
+        output,
+    );
     put_behind(&mac, content + long, output);
     put_behind(&frame[content..], content + long + 16, output);
 }

@@ -1,4 +1,4 @@
--- `check` is right because a frame that is not admitted is refused as its first test says, and another is checked under its entry.
+-- `check_by` is right because a frame that is not admitted is refused as its first test says, and another is checked under its entry.
 -- Assumes nothing.
 use mathlib.Core.Path.{ap, _∙_, subst}
 use mathlib.Core.Bool.{true}
@@ -13,11 +13,11 @@ use Rattle.link.proofs.Carried.{carried-refusal}
 use Rattle.judging.proofs.Admitting.{admitted-obeys}
 use Rattle.link.proofs.Under.{checking-refused, checking-under}
 use borrow.Author.Needs.{needs}
-use Rattle.link.proofs.check.Statement.{statement}
-use Rattle.link.proofs.check.Tie as tie
+use Rattle.link.proofs.check_by.Statement.{statement}
+use Rattle.link.proofs.check_by.Tie as tie
 
 abbrev start : tie.After-admit-receiving → tie.Start
-start c = c .before .before .before .before .before
+start c = c .before .before .before .before .before .before
 
 abbrev reply : tie.After-admit-receiving → Reply
 reply c =
@@ -48,8 +48,8 @@ check-under-requires c κs =
     let d = hit .before .before in
     let g = start d .args in
     let said = saying (g .kind) in
-    admitted-obeys (g .image .now) (g .numbers .last) (checkingWants said (g .frame .now)) said (g .frame .now) true _ _
-    (subst (told d) (hit .admission2 .given .1) (d .admit-receiving .ensures))
+    (start d .pre, admitted-obeys (g .image .now) (g .numbers .last) (checkingWants said (g .frame .now)) said (g .frame .now) true _ _
+    (subst (told d) (hit .admission2 .given .1) (d .admit-receiving .ensures)))
 
 returns-2 : tie.Need-returns-2
 unfolding checked checkedAs
@@ -63,7 +63,7 @@ returns-2 c =
     (checking-under (g .image .now) (g .numbers .last) (saying (g .kind)) (g .frame .now) (length (g .output .now)) _ _
     (subst (told d) (hit .admission2 .given .1) (d .admit-receiving .ensures)))
 
-pub check-spec : {M : Type 1} → statement M
-check-spec =
+pub check-by-spec : {M : Type 1} → statement M
+check-by-spec =
     tie.close
     (tie.spec (λ c κs. search needs) (λ c. search needs) (λ c κs. search needs) (λ c. search needs) check-under-requires (λ c. search needs) returns (λ c. search needs) (λ c. search needs) returns-2)

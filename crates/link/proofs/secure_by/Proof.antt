@@ -1,4 +1,4 @@
--- `secure` is right because a frame that is not admitted is refused as its first test says, and another is secured under its entry.
+-- `secure_by` is right because a frame that is not admitted is refused as its first test says, and another is secured under its entry.
 -- Assumes nothing.
 use mathlib.Core.Path.{ap, _∙_, subst}
 use mathlib.Core.Bool.{false}
@@ -13,11 +13,11 @@ use Rattle.link.proofs.Carried.{carried-refusal}
 use Rattle.judging.proofs.Admitting.{admitted-obeys}
 use Rattle.link.proofs.Under.{securing-refused, securing-under}
 use borrow.Author.Needs.{needs}
-use Rattle.link.proofs.secure.Statement.{statement}
-use Rattle.link.proofs.secure.Tie as tie
+use Rattle.link.proofs.secure_by.Statement.{statement}
+use Rattle.link.proofs.secure_by.Tie as tie
 
 abbrev start : tie.After-admit-sending → tie.Start
-start c = c .before .before .before .before .before
+start c = c .before .before .before .before .before .before
 
 abbrev reply : tie.After-admit-sending → Reply
 reply c =
@@ -47,8 +47,8 @@ secure-under-requires c κs =
     let d = hit .before .before in
     let g = start d .args in
     let said = saying (g .kind) in
-    admitted-obeys (g .image .now) (g .numbers .last) (securingWants said (g .spi) (g .frame .now)) said (g .frame .now) false _ _
-    (subst (told d) (hit .admission2 .given .1) (d .admit-sending .ensures))
+    (start d .pre, admitted-obeys (g .image .now) (g .numbers .last) (securingWants said (g .spi) (g .frame .now)) said (g .frame .now) false _ _
+    (subst (told d) (hit .admission2 .given .1) (d .admit-sending .ensures)))
 
 returns-2 : tie.Need-returns-2
 unfolding secured
@@ -62,7 +62,7 @@ returns-2 c =
     (securing-under (g .image .now) (g .numbers .last) (saying (g .kind)) (g .spi) (g .frame .now) (length (g .output .now)) _ _
     (subst (told d) (hit .admission2 .given .1) (d .admit-sending .ensures)))
 
-pub secure-spec : {M : Type 1} → statement M
-secure-spec =
+pub secure-by-spec : {M : Type 1} → statement M
+secure-by-spec =
     tie.close
     (tie.spec (λ c κs. search needs) (λ c. search needs) (λ c κs. search needs) (λ c. search needs) secure-under-requires (λ c. search needs) returns (λ c. search needs) (λ c. search needs) returns-2)
