@@ -16,6 +16,7 @@ enum { HEADER = 5, SPI = 9 };
 static uint8_t images[2][LARGEST_IMAGE], clear[LARGEST_FRAME], secured[LARGEST_FRAME], opened[LARGEST_FRAME];
 static uint32_t numbers[2][NUMBER_COUNT];
 static size_t image_length;
+static bool is_on_ground; /* which engine's calls are made */
 
 static void hide(void *from, size_t octets) { VALGRIND_MAKE_MEM_UNDEFINED(from, octets); }
 
@@ -50,8 +51,9 @@ static void check(size_t data, size_t before, uint8_t change, unsigned answer)
     size_t length = before + data + MAC_LENGTH;
     secured[length - 1] ^= change;
     hide(secured + before, data + MAC_LENGTH);
-    need(xistalvo_check(images[1], image_length, numbers[1], NUMBER_COUNT, XISTALVO_TC, secured, length, opened, sizeof opened), answer,
-         "check");
+    need((is_on_ground ? xistalvo_ground_check : xistalvo_check)(images[1], image_length, numbers[1], NUMBER_COUNT, XISTALVO_TC, secured, length,
+                                                                 opened, sizeof opened),
+         answer, "check");
     show(secured, length);
     secured[length - 1] ^= change;
 }
@@ -65,7 +67,8 @@ static void round_trip(unsigned service, size_t data)
     memcpy(clear, header, HEADER);
     write_tc_length(clear, HEADER + data);
     hide(clear + HEADER, data);
-    need(xistalvo_secure(images[0], image_length, numbers[0], NUMBER_COUNT, XISTALVO_TC, SPI, clear, HEADER + data, secured, sizeof secured),
+    need((is_on_ground ? xistalvo_ground_secure : xistalvo_secure)(images[0], image_length, numbers[0], NUMBER_COUNT, XISTALVO_TC, SPI, clear,
+                                                                   HEADER + data, secured, sizeof secured),
          XISTALVO_DONE, "sending");
     show(secured, before + data + MAC_LENGTH);
     check(data, before, 1, XISTALVO_MAC_DIFFERS);
@@ -75,7 +78,9 @@ static void round_trip(unsigned service, size_t data)
 int main(void)
 {
     static const size_t sizes[] = {1, 16, 100, 986};
-    for (unsigned service = 1; service <= 2; service++) {
+    for (unsigned run = 0; run < 4; run++) {
+        unsigned service = run % 2 + 1;
+        is_on_ground = run / 2 == 1;
         prepare(service);
         for (size_t i = 0; i < sizeof sizes / sizeof sizes[0]; i++) {
             round_trip(service, sizes[i]);

@@ -13,7 +13,6 @@ use judging::admit_receiving;
 use judging::admit_sending;
 use outcome::refused;
 use securing::secure_under;
-use word_tables::word_tables;
 ghost use mathlib.Core.List.{[]};
 ghost use mathlib.Core.Path.{_≡_};
 ghost use Rattle.engines.specs.Lent.{Lent};
@@ -39,9 +38,9 @@ pub fn load(image: &[u8], numbers: Numbers) -> Outcome
     }
 }
 
-// The secured frame of a clear one to the front of the output, under the association that the SPI names. The tables say which engine makes
-// the blocks of the cipher.
-fn secure_by(
+// The secured frame of a clear one to the front of the output, under the association that the SPI names. The tables that are lent say which
+// engine makes the blocks of the cipher: those of crate `word_tables`, or none.
+pub fn secure_by(
     tables: &[u32],
     image: &mut [u8],
     numbers: Numbers,
@@ -62,7 +61,7 @@ fn secure_by(
     }
 }
 
-// On board: by the engine on octets, which takes little stack.
+// The same with no tables.
 pub fn secure(
     image: &mut [u8],
     numbers: Numbers,
@@ -76,23 +75,8 @@ pub fn secure(
     secure_by(&[], image, numbers, kind, spi, frame, output)
 }
 
-// At the ground station: by the engine on words, whose tables lie on the stack of the call.
-pub fn ground_secure(
-    image: &mut [u8],
-    numbers: Numbers,
-    kind: u8,
-    spi: u16,
-    frame: &[u8],
-    output: &mut [u8],
-) -> Outcome
-    ensures { λ r. ⌜ leaving r (now (image .exit)) (now (output .exit)) ≡ secured (now (image .entry)) (numbers .last) (saying kind) spi (now (frame .entry)) (now (output .entry)) ⌝ }
-{
-    let tables = word_tables();
-    secure_by(&tables, image, numbers, kind, spi, frame, output)
-}
-
 // The clear data of a secured frame to the front of the output, under the association that the frame's SPI names.
-fn check_by(
+pub fn check_by(
     tables: &[u32],
     image: &mut [u8],
     numbers: Numbers,
@@ -112,6 +96,7 @@ fn check_by(
     }
 }
 
+// The same with no tables.
 pub fn check(
     image: &mut [u8],
     numbers: Numbers,
@@ -122,17 +107,4 @@ pub fn check(
     ensures { λ r. ⌜ leaving r (now (image .exit)) (now (output .exit)) ≡ checked (now (image .entry)) (numbers .last) (saying kind) (now (frame .entry)) (now (output .entry)) ⌝ }
 {
     check_by(&[], image, numbers, kind, frame, output)
-}
-
-pub fn ground_check(
-    image: &mut [u8],
-    numbers: Numbers,
-    kind: u8,
-    frame: &[u8],
-    output: &mut [u8],
-) -> Outcome
-    ensures { λ r. ⌜ leaving r (now (image .exit)) (now (output .exit)) ≡ checked (now (image .entry)) (numbers .last) (saying kind) (now (frame .entry)) (now (output .entry)) ⌝ }
-{
-    let tables = word_tables();
-    check_by(&tables, image, numbers, kind, frame, output)
 }

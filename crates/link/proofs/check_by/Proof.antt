@@ -47,9 +47,11 @@ check-under-requires c κs =
     let hit = c .before .before .before in
     let d = hit .before .before in
     let g = start d .args in
-    let said = saying (g .kind) in
-    (start d .pre, admitted-obeys (g .image .now) (g .numbers .last) (checkingWants said (g .frame .now)) said (g .frame .now) true _ _
-    (subst (told d) (hit .admission2 .given .1) (d .admit-receiving .ensures)))
+    let said = saying (g .kind) in (
+      start d .pre,
+      admitted-obeys (g .image .now) (g .numbers .last) (checkingWants said (g .frame .now)) said (g .frame .now) true _ _
+          (subst (told d) (hit .admission2 .given .1) (d .admit-receiving .ensures)),
+    )
 
 returns-2 : tie.Need-returns-2
 unfolding checked checkedAs

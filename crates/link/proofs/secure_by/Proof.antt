@@ -46,9 +46,11 @@ secure-under-requires c κs =
     let hit = c .before .before .before in
     let d = hit .before .before in
     let g = start d .args in
-    let said = saying (g .kind) in
-    (start d .pre, admitted-obeys (g .image .now) (g .numbers .last) (securingWants said (g .spi) (g .frame .now)) said (g .frame .now) false _ _
-    (subst (told d) (hit .admission2 .given .1) (d .admit-sending .ensures)))
+    let said = saying (g .kind) in (
+      start d .pre,
+      admitted-obeys (g .image .now) (g .numbers .last) (securingWants said (g .spi) (g .frame .now)) said (g .frame .now) false _ _
+          (subst (told d) (hit .admission2 .given .1) (d .admit-sending .ensures)),
+    )
 
 returns-2 : tie.Need-returns-2
 unfolding secured

@@ -1,4 +1,4 @@
--- `xistalvo_check` is right because with 32 numbers it is the module's checking, and with another count the refusal.
+-- `check_lent` is right because with 32 numbers it is the module's checking, and with another count the refusal.
 -- Assumes nothing.
 use mathlib.Core.List.{List}
 use Prim.Native.Nat.{ℕ}
@@ -7,13 +7,13 @@ use Rattle.judging.specs.Said.{saying}
 use Rattle.link_c.specs.Interface.{checkCall}
 use Rattle.link_c.proofs.Returning.{returned, miscounted}
 use borrow.Author.Needs.{needs}
-use Rattle.link_c.proofs.xistalvo_check.Statement.{statement}
-use Rattle.link_c.proofs.xistalvo_check.Tie as tie
+use Rattle.link_c.proofs.calls.check_lent.Statement.{statement}
+use Rattle.link_c.proofs.calls.check_lent.Tie as tie
 
 returns : tie.Need-returns
 unfolding checkCall
 returns c =
-    let g = c .before .before .before .before .before .before .before .args in
+    let g = c .before .before .before .before .before .before .before .before .args in
     miscounted (λ (n : List ℕ). checked (g .image .now) n (saying (g .kind)) (g .frame .now) (g .output .now))
     (g .image .now) (g .numbers .now) (g .output .now)
     (c .before .before .if1 .taken)
@@ -24,18 +24,18 @@ unfolding checkCall
 returns-2 c =
     let at-check = c .before .before .before .before .before .before .before .before .before in
     let at-else = at-check .before .before .before .before .before in
-    let g = at-else .before .before .before .before .before .args in
+    let g = at-else .before .before .before .before .before .before .args in
     returned (λ (n : List ℕ). checked (g .image .now) n (saying (g .kind)) (g .frame .now) (g .output .now))
     (g .image .now) (g .numbers .now) (g .output .now)
-    (at-check .check .result)
+    (at-check .check-by .result)
     (at-else .if1 .left)
     (at-check .before .before .numbers-in .ensures)
-    (at-check .check .ensures)
+    (at-check .check-by .ensures)
     (c .before .before .before .hand-back .ensures)
     (c .pack .ensures)
 
-pub xistalvo-check-spec : {M : Type 1} → statement M
-xistalvo-check-spec =
+pub check-lent-spec : {M : Type 1} → statement M
+check-lent-spec =
     tie.close
     (tie.spec
     (λ c κs. search needs)

@@ -1,4 +1,4 @@
--- `xistalvo_secure` is right because with 32 numbers it is the module's securing, and with another count the refusal.
+-- `secure_lent` is right because with 32 numbers it is the module's securing, and with another count the refusal.
 -- Assumes nothing.
 use mathlib.Core.List.{List}
 use Prim.Native.Nat.{ℕ}
@@ -7,13 +7,13 @@ use Rattle.judging.specs.Said.{saying}
 use Rattle.link_c.specs.Interface.{secureCall}
 use Rattle.link_c.proofs.Returning.{returned, miscounted}
 use borrow.Author.Needs.{needs}
-use Rattle.link_c.proofs.xistalvo_secure.Statement.{statement}
-use Rattle.link_c.proofs.xistalvo_secure.Tie as tie
+use Rattle.link_c.proofs.calls.secure_lent.Statement.{statement}
+use Rattle.link_c.proofs.calls.secure_lent.Tie as tie
 
 returns : tie.Need-returns
 unfolding secureCall
 returns c =
-    let g = c .before .before .before .before .before .before .before .args in
+    let g = c .before .before .before .before .before .before .before .before .args in
     miscounted (λ (n : List ℕ). secured (g .image .now) n (saying (g .kind)) (g .spi) (g .frame .now) (g .output .now))
     (g .image .now) (g .numbers .now) (g .output .now)
     (c .before .before .if1 .taken)
@@ -24,18 +24,18 @@ unfolding secureCall
 returns-2 c =
     let at-secure = c .before .before .before .before .before .before .before .before .before in
     let at-else = at-secure .before .before .before .before .before in
-    let g = at-else .before .before .before .before .before .args in
+    let g = at-else .before .before .before .before .before .before .args in
     returned (λ (n : List ℕ). secured (g .image .now) n (saying (g .kind)) (g .spi) (g .frame .now) (g .output .now))
     (g .image .now) (g .numbers .now) (g .output .now)
-    (at-secure .secure .result)
+    (at-secure .secure-by .result)
     (at-else .if1 .left)
     (at-secure .before .before .numbers-in .ensures)
-    (at-secure .secure .ensures)
+    (at-secure .secure-by .ensures)
     (c .before .before .before .hand-back .ensures)
     (c .pack .ensures)
 
-pub xistalvo-secure-spec : {M : Type 1} → statement M
-xistalvo-secure-spec =
+pub secure-lent-spec : {M : Type 1} → statement M
+secure-lent-spec =
     tie.close
     (tie.spec
     (λ c κs. search needs)
