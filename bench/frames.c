@@ -1,10 +1,15 @@
 // What a frame costs: `xistalvo_secure` and `xistalvo_check` on whole frames, and beside them the cipher work of the same frames by OpenSSL's
-// EVP and by libgcrypt, with the key set up for each frame. What the libraries make is compared with what the module made, for each line.
-// It prints a line for each kind, service, size and number of entries, and for frames with a check field, as TC+ and TM+: microseconds a
-// frame. bench/frames runs it and adds the ratios.
+// EVP, by libgcrypt and by mbedTLS, with the key set up for each frame. What the libraries make is compared with what the module made, for
+// each line. It prints a line for each kind, service, size and number of entries, and for frames with a check field, as TC+ and TM+:
+// microseconds a frame, and the ratios of the module's time to each library's. The module and the libraries take turns; a ratio is of two times
+// of the same turn, and what is printed is the median of all turns, of each time and of each ratio. Run with WITHOUT_AES set, no library uses
+// the processor's instructions for AES and GHASH.
 #include "../include/xistalvo.h"
 
 #include <gcrypt.h>
+#include <mbedtls/aesni.h>
+#include <mbedtls/cmac.h>
+#include <mbedtls/gcm.h>
 #include <openssl/core_names.h>
 #include <openssl/evp.h>
 #include <openssl/params.h>
@@ -14,7 +19,7 @@
 #include <string.h>
 #include <time.h>
 
-enum { MOST = XISTALVO_LARGEST_FRAME, MAC = 16, KEY = 32, ROUNDS = 5 };
+enum { MOST = XISTALVO_LARGEST_FRAME, MAC = 16, KEY = 32, TURNS = 51 };
 
 static const uint8_t mask[6] = {0xff, 0xff, 0xfc, 0x00, 0xff, 0x00};
 
@@ -121,6 +126,22 @@ static struct link *make_link(uint8_t kind, uint8_t check_field, uint8_t service
 
 // ---- the module
 
+// The calls that are measured: those for on board, or with GROUND set those for a ground station.
+static bool is_on_ground;
+
+static uint64_t secure(struct link *l, uint32_t *numbers)
+{
+    return (is_on_ground ? xistalvo_ground_secure : xistalvo_secure)(l->here, XISTALVO_IMAGE_LENGTH(l->entries), numbers, XISTALVO_NUMBERS,
+                                                                     l->kind, l->check_field, l->spi, l->clear, l->clear_length, l->secured,
+                                                                     MOST);
+}
+
+static uint64_t check(struct link *l, uint32_t *numbers)
+{
+    return (is_on_ground ? xistalvo_ground_check : xistalvo_check)(l->there, XISTALVO_IMAGE_LENGTH(l->entries), numbers, XISTALVO_NUMBERS,
+                                                                   l->kind, l->check_field, l->secured, l->secured_length, l->released, MOST);
+}
+
 static double secure_frames(struct link *l, size_t count)
 {
     size_t size = XISTALVO_IMAGE_LENGTH(l->entries);
@@ -128,9 +149,7 @@ static double secure_frames(struct link *l, size_t count)
     need(XISTALVO_ANSWER(xistalvo_load(l->here, size, numbers, XISTALVO_NUMBERS)) == 0, "a load was refused");
     double began = now();
     for (size_t i = 0; i < count; i++)
-        need(XISTALVO_ANSWER(xistalvo_secure(l->here, size, numbers, XISTALVO_NUMBERS, l->kind, l->check_field, l->spi, l->clear,
-                                             l->clear_length, l->secured, MOST)) == 0,
-             "a sending was refused");
+        need(XISTALVO_ANSWER(secure(l, numbers)) == 0, "a sending was refused");
     return (now() - began) / (double)count;
 }
 
@@ -145,10 +164,9 @@ static double check_frames(struct link *l, size_t count)
     need(XISTALVO_ANSWER(xistalvo_load(l->here, size, sender, XISTALVO_NUMBERS)) == 0, "a load was refused");
     need(XISTALVO_ANSWER(xistalvo_load(l->there, size, receiver, XISTALVO_NUMBERS)) == 0, "a load was refused");
     for (size_t i = 0; i < count; i++) {
-        xistalvo_secure(l->here, size, sender, XISTALVO_NUMBERS, l->kind, l->check_field, l->spi, l->clear, l->clear_length, l->secured, MOST);
+        secure(l, sender);
         double began = now();
-        uint64_t r = xistalvo_check(l->there, size, receiver, XISTALVO_NUMBERS, l->kind, l->check_field, l->secured, l->secured_length,
-                                    l->released, MOST);
+        uint64_t r = check(l, receiver);
         spent += now() - began;
         need(XISTALVO_ANSWER(r) == 0 && XISTALVO_LENGTH(r) == l->data, "a check was refused");
     }
@@ -241,42 +259,111 @@ static double by_gcrypt(const struct link *l, size_t count)
     return spent;
 }
 
+#if defined(MBEDTLS_AESNI_C) && defined(MBEDTLS_HAVE_X86_64)
+// mbedTLS has no switch; it is linked so that it asks here whether the processor has the instructions.
+int __real_mbedtls_aesni_has_support(unsigned what);
+int __wrap_mbedtls_aesni_has_support(unsigned what);
+int __wrap_mbedtls_aesni_has_support(unsigned what)
+{
+    return getenv("WITHOUT_AES") ? 0 : __real_mbedtls_aesni_has_support(what);
+}
+#endif
+
+static double by_mbedtls(const struct link *l, size_t count)
+{
+    struct work w;
+    mbedtls_gcm_context seals;
+    const mbedtls_cipher_info_t *aes = mbedtls_cipher_info_from_type(MBEDTLS_CIPHER_AES_256_ECB);
+    prepare(l, &w);
+    mbedtls_gcm_init(&seals);
+    double began = now();
+    for (size_t i = 0; i < count; i++) {
+        bool ok;
+        if (l->service == 1) {
+            mbedtls_cipher_context_t macs;
+            mbedtls_cipher_init(&macs);
+            ok = !mbedtls_cipher_setup(&macs, aes) && !mbedtls_cipher_cmac_starts(&macs, l->key, 8 * KEY)
+                 && !mbedtls_cipher_cmac_update(&macs, w.before, w.before_length)
+                 && !mbedtls_cipher_cmac_update(&macs, l->clear + l->header, l->data) && !mbedtls_cipher_cmac_finish(&macs, w.mac);
+            mbedtls_cipher_free(&macs);
+        } else {
+            ok = !mbedtls_gcm_setkey(&seals, MBEDTLS_CIPHER_ID_AES, l->key, 8 * KEY)
+                 && !mbedtls_gcm_crypt_and_tag(&seals, MBEDTLS_GCM_ENCRYPT, l->data, w.iv, sizeof w.iv, w.before, w.before_length,
+                                               l->clear + l->header, w.text, MAC, w.mac);
+        }
+        need(ok, "a call of mbedTLS failed");
+    }
+    double spent = (now() - began) / (double)count;
+    compare(l, &w);
+    mbedtls_gcm_free(&seals);
+    return spent;
+}
+
 // ---- lines
 
-static double least(double a, double b)
+enum { SECURE, CHECK, OPENSSL, GCRYPT, MBEDTLS, TIMES };
+
+static int order(const void *a, const void *b)
 {
-    return a < b ? a : b;
+    double x = *(const double *)a, y = *(const double *)b;
+    return (x > y) - (x < y);
+}
+
+static double median(double values[TURNS])
+{
+    qsort(values, TURNS, sizeof *values, order);
+    return values[TURNS / 2];
+}
+
+// The median, over the turns, of one time, or of its ratio to another of the same turn.
+static double over_turns(double times[TURNS][TIMES], int time, int to)
+{
+    double values[TURNS];
+    for (int i = 0; i < TURNS; i++)
+        values[i] = to == TIMES ? times[i][time] : times[i][time] / times[i][to];
+    return median(values);
 }
 
 static void measure(uint8_t kind, uint8_t check_field, uint8_t service, size_t data, size_t entries, size_t octets)
 {
-    double secure = 1e9, check = 1e9, openssl = 1e9, gcrypt = 1e9;
-    size_t count = octets / (data + 256) + 1;
-    for (int i = 0; i < ROUNDS; i++) {
+    double times[TURNS][TIMES];
+    size_t count = octets / (data + 256) / TURNS + 1;
+    for (int i = 0; i < TURNS; i++) {
         struct link *l = make_link(kind, check_field, service, data, entries);
-        secure = least(secure, secure_frames(l, count));
-        check = least(check, check_frames(l, count));
-        openssl = least(openssl, by_openssl(l, count));
-        gcrypt = least(gcrypt, by_gcrypt(l, count));
+        times[i][SECURE] = secure_frames(l, count);
+        times[i][CHECK] = check_frames(l, count);
+        times[i][OPENSSL] = by_openssl(l, count);
+        times[i][GCRYPT] = by_gcrypt(l, count);
+        times[i][MBEDTLS] = by_mbedtls(l, count);
     }
-    printf("%s%s %u %zu %zu %.3f %.3f %.3f %.3f\n", kind == XISTALVO_TM ? "TM" : "TC", check_field ? "+" : "", service, data, entries, secure,
-           check, openssl, gcrypt);
+    printf("%s%-2s %7u %6zu %7zu", kind == XISTALVO_TM ? "TM" : "TC", check_field ? "+" : "", service, data, entries);
+    for (int time = SECURE; time < TIMES; time++)
+        printf(" %8.2f", over_turns(times, time, TIMES));
+    for (int time = SECURE; time <= CHECK; time++)
+        for (int to = OPENSSL; to < TIMES; to++)
+            printf(" %6.2f", over_turns(times, time, to));
+    printf("\n");
 }
 
 int main(int count, char **arguments)
 {
-    static const size_t sizes[] = {16, 64, 256, 986, 2000};
-    size_t octets = count > 1 ? strtoul(arguments[1], NULL, 10) : 1000000;
-    if (getenv("WITHOUT_AES"))
-        gcry_control(GCRYCTL_DISABLE_HWF, "intel-aesni", NULL);
+    static const size_t sizes[2][5] = {{16, 64, 256, 986, 0}, {16, 64, 256, 994, 2000}};
+    size_t octets = count > 1 ? strtoul(arguments[1], NULL, 10) : 5000000;
+    is_on_ground = getenv("GROUND") != NULL;
+    if (getenv("WITHOUT_AES")) {
+        static const char *const features[] = {"intel-aesni", "intel-pclmul", "intel-vaes-vpclmul", "arm-aes", "arm-pmull"};
+        for (size_t i = 0; i < sizeof features / sizeof *features; i++)
+            gcry_control(GCRYCTL_DISABLE_HWF, features[i], NULL);
+    }
     need(gcry_check_version(GCRYPT_VERSION) != NULL, "another libgcrypt than the header's");
     gcry_control(GCRYCTL_INITIALIZATION_FINISHED, 0);
+    printf("%-4s %7s %6s %7s %8s %8s %8s %8s %8s %6s %6s %6s %6s %6s %6s\n", "kind", "service", "octets", "entries", "secure", "check",
+           "OpenSSL", "gcrypt", "mbedTLS", "s / O", "s / g", "s / m", "c / O", "c / g", "c / m");
     for (uint8_t service = 1; service <= 2; service++)
         for (int k = 0; k < 2; k++)
-            for (size_t s = 0; s < sizeof sizes / sizeof *sizes; s++)
+            for (size_t s = 0; s < 5 && sizes[k][s]; s++)
                 for (size_t entries = 1; entries <= 32; entries += 31)
                     for (uint8_t field = 0; field <= 1; field++)
-                        if (k == 1 || sizes[s] <= 986)
-                            measure(k == 0 ? XISTALVO_TC : XISTALVO_TM, field, service, sizes[s], entries, octets);
+                        measure(k == 0 ? XISTALVO_TC : XISTALVO_TM, field, service, sizes[k][s], entries, octets);
     return 0;
 }

@@ -4,13 +4,14 @@
 root=$(pwd)
 . "$root/tests/lib.sh"
 help_if_asked "$root/bench/$(basename "$0")" "$@"
-[ "$(uname -m)" = x86_64 ] || fail "The toolchain compiles programs for x86-64 alone, and what an emulator takes says nothing; this is $(uname -m)."
 need_compiler
 room=$(mktemp -d)
 trap 'rm -rf "$room"' EXIT
 
 # Builds the programs `rattle`, of crates/cipher_bench, and `openssl`.
 build() { # SOURCE-IN-C
+    [ "$(uname -m)" = x86_64 ] ||
+        fail "The toolchain compiles programs for x86-64 alone, and what an emulator takes says nothing; this is $(uname -m)."
     command -v rt >/dev/null || fail "The Rattle toolchain (rt), which makes the program, is not on the path."
     need_openssl
     rt check cipher_bench >"$room/check" 2>&1 || {

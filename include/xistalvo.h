@@ -30,8 +30,8 @@ extern "C" {
 
 /* The version of this interface. The second number rises where something is added, the first where a program has to change. */
 #define XISTALVO_VERSION_MAJOR 2
-#define XISTALVO_VERSION_MINOR 0
-#define XISTALVO_VERSION "2.0"
+#define XISTALVO_VERSION_MINOR 1
+#define XISTALVO_VERSION "2.1"
 
 /* The managed numbers of one image, in elements. */
 #define XISTALVO_NUMBERS 32
@@ -148,6 +148,15 @@ uint64_t xistalvo_secure(uint8_t *image, size_t image_length, uint32_t *numbers,
  * Refused: image, numbers and output stay as they were, and nothing is decrypted. The frame is never written. */
 uint64_t xistalvo_check(uint8_t *image, size_t image_length, uint32_t *numbers, size_t numbers_length, uint8_t kind, uint8_t check_field,
                         const uint8_t *frame, size_t frame_length, uint8_t *output, size_t output_length);
+
+/* The same two calls for a ground station: the same arguments, answers and octets, for every input, by another engine of AES-256, which is
+ * quicker. It takes its tables from its own stack, XISTALVO_GROUND_STACK octets in all (xistalvo_stack.h). A program that does not call them
+ * carries no tables where its linker drops what is not called. */
+uint64_t xistalvo_ground_secure(uint8_t *image, size_t image_length, uint32_t *numbers, size_t numbers_length, uint8_t kind,
+                                uint8_t check_field, uint16_t spi, const uint8_t *frame, size_t frame_length, uint8_t *output,
+                                size_t output_length);
+uint64_t xistalvo_ground_check(uint8_t *image, size_t image_length, uint32_t *numbers, size_t numbers_length, uint8_t kind,
+                               uint8_t check_field, const uint8_t *frame, size_t frame_length, uint8_t *output, size_t output_length);
 
 /* The cut: what a call that took this number leaves of the image when power fails after its first stores.
  *

@@ -12,10 +12,15 @@
 extern "C" {
 #endif
 
-/* No call takes more octets of stack than this, on any processor that was measured (docs/ON_BOARD.md). Where the stack is small, define the
+/* No call but those for a ground station takes more octets of stack than this, on any processor that was measured (docs/ON_BOARD.md). Where the stack is small, define the
  * figure of your processor, with some to spare, before this file is included. */
 #ifndef XISTALVO_STACK
 #define XISTALVO_STACK 4096
+#endif
+
+/* The calls for a ground station take this many at most. */
+#ifndef XISTALVO_GROUND_STACK
+#define XISTALVO_GROUND_STACK 8192
 #endif
 
 static inline void xistalvo_fill_stack(void)
@@ -33,6 +38,22 @@ static inline void xistalvo_fill_stack(void)
 static inline void xistalvo_clear_stack(void)
 {
     void (*volatile fill)(void) = xistalvo_fill_stack; /* so that the fill has a frame of its own, where the module's frames were */
+    fill();
+}
+
+static inline void xistalvo_fill_ground_stack(void)
+{
+    volatile uint8_t below[XISTALVO_GROUND_STACK];
+    size_t i;
+    for (i = 0; i < sizeof below; i++) {
+        below[i] = 0;
+    }
+}
+
+/* The same after calls for a ground station: XISTALVO_GROUND_STACK octets. */
+static inline void xistalvo_clear_ground_stack(void)
+{
+    void (*volatile fill)(void) = xistalvo_fill_ground_stack;
     fill();
 }
 

@@ -41,6 +41,24 @@ static void call_check(void)
     }
 }
 
+static void call_ground_secure(void)
+{
+    result = xistalvo_ground_secure(images[0], image_length, numbers[0], NUMBER_COUNT, XISTALVO_TC, XISTALVO_NO_CHECK_FIELD, SPI, clear,
+                                    clear_length, secured, sizeof secured);
+    if (is_cleared) {
+        xistalvo_clear_ground_stack();
+    }
+}
+
+static void call_ground_check(void)
+{
+    result = xistalvo_ground_check(images[1], image_length, numbers[1], NUMBER_COUNT, XISTALVO_TC, XISTALVO_NO_CHECK_FIELD, secured,
+                                   XISTALVO_LENGTH(result), opened, sizeof opened);
+    if (is_cleared) {
+        xistalvo_clear_ground_stack();
+    }
+}
+
 static void run_on_own_stack(void (*call)(void))
 {
     memset(stack, PATTERN, sizeof stack);
@@ -85,10 +103,10 @@ static void prepare(unsigned service, unsigned key)
 static void run(void (*call)(void), unsigned service, unsigned key)
 {
     prepare(service, key);
-    run_on_own_stack(call_secure);
-    if (call != call_secure) {
-        run_on_own_stack(call);
+    if (call == call_check || call == call_ground_check) {
+        run_on_own_stack(call_secure);
     }
+    run_on_own_stack(call);
 }
 
 /* How many pieces of the key are on the stack. */
@@ -118,7 +136,10 @@ int main(void)
     static const struct {
         const char *name;
         void (*call)(void);
-    } calls[] = {{"secure", call_secure}, {"check", call_check}};
+    } calls[] = {{"secure", call_secure},
+                 {"check", call_check},
+                 {"ground_secure", call_ground_secure},
+                 {"ground_check", call_ground_check}};
     static uint8_t left[ROOM];
     size_t before = 0;
     for (size_t i = 0; i < sizeof calls / sizeof calls[0]; i++) {

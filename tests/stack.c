@@ -10,7 +10,7 @@
 #include <string.h>
 #include <ucontext.h>
 
-enum { ROOM = 1 << 16 }; /* the calls run on this many octets, and may take XISTALVO_STACK */
+enum { ROOM = 1 << 16 }; /* the calls run on this many octets, and may take XISTALVO_STACK, or XISTALVO_GROUND_STACK */
 
 static uint8_t stack[ROOM] __attribute__((aligned(64)));
 static uintptr_t frame_of_caller;
@@ -35,6 +35,18 @@ static void call_check(void)
 {
     result = xistalvo_check(images[1], image_length, numbers[1], NUMBER_COUNT, kind, check_field, secured, secured_length, opened,
                             sizeof opened);
+}
+
+static void call_ground_secure(void)
+{
+    result = xistalvo_ground_secure(images[0], image_length, numbers[0], NUMBER_COUNT, kind, check_field, MOST_ENTRIES, clear, clear_length,
+                                    secured, sizeof secured);
+}
+
+static void call_ground_check(void)
+{
+    result = xistalvo_ground_check(images[1], image_length, numbers[1], NUMBER_COUNT, kind, check_field, secured, secured_length, opened,
+                                   sizeof opened);
 }
 
 static void call_raise(void)
@@ -122,7 +134,7 @@ static size_t taken_by(void (*call)(void), unsigned service)
         for (size_t i = 0; i < sizeof patterns / sizeof patterns[0]; i++) {
             make_ends(service);
             make_frame(service);
-            if (call == call_check) {
+            if (call == call_check || call == call_ground_check) {
                 call_secure();
                 secured_length = XISTALVO_LENGTH(result);
             }
@@ -137,14 +149,20 @@ int main(void)
     static const struct {
         const char *name;
         void (*call)(void);
-    } calls[] = {{"load", call_load}, {"secure", call_secure}, {"check", call_check}, {"raise", call_raise}};
-    size_t most = 0;
+        size_t limit;
+    } calls[] = {{"load", call_load, XISTALVO_STACK},
+                 {"secure", call_secure, XISTALVO_STACK},
+                 {"check", call_check, XISTALVO_STACK},
+                 {"raise", call_raise, XISTALVO_STACK},
+                 {"ground_secure", call_ground_secure, XISTALVO_GROUND_STACK},
+                 {"ground_check", call_ground_check, XISTALVO_GROUND_STACK}};
+    bool is_within = true;
     printf("octets of stack  service 1  service 2\n");
     for (size_t i = 0; i < sizeof calls / sizeof calls[0]; i++) {
         size_t taken[] = {taken_by(calls[i].call, 1), taken_by(calls[i].call, 2)};
         printf("%-15s %10zu %10zu\n", calls[i].name, taken[0], taken[1]);
-        most = larger(most, larger(taken[0], taken[1]));
+        is_within = is_within && larger(taken[0], taken[1]) <= calls[i].limit;
     }
-    printf("stack: at most %zu octets\n", most);
-    return most > XISTALVO_STACK;
+    printf("stack: %s\n", is_within ? "no call takes more than its limit" : "a call takes more than its limit");
+    return !is_within;
 }

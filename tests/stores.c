@@ -185,12 +185,15 @@ static void call_watched(struct input *input)
     memcpy(seen.output, input->output, input->output_length);
     guarded_lend(&image_area, input->image, input->image_length, LEND_AT_END, LEND_READ_ONLY);
     guarded_lend(&output_area, input->output, input->output_length, LEND_AT_END, LEND_READ_ONLY);
+    bool is_on_ground = input->frame_length % 2 == 1; /* either engine, by a property of the input that nothing else turns on */
     if (input->which == CALL_SECURE) {
-        xistalvo_secure(image_area.range, input->image_length, input->numbers, NUMBER_COUNT, input->kind, input->check_field,
-                        input->spi, input->frame, input->frame_length, output_area.range, input->output_length);
+        (is_on_ground ? xistalvo_ground_secure : xistalvo_secure)(image_area.range, input->image_length, input->numbers, NUMBER_COUNT, input->kind,
+                                                                  input->check_field, input->spi, input->frame, input->frame_length,
+                                                                  output_area.range, input->output_length);
     } else {
-        xistalvo_check(image_area.range, input->image_length, input->numbers, NUMBER_COUNT, input->kind, input->check_field,
-                       input->frame, input->frame_length, output_area.range, input->output_length);
+        (is_on_ground ? xistalvo_ground_check : xistalvo_check)(image_area.range, input->image_length, input->numbers, NUMBER_COUNT, input->kind,
+                                                                input->check_field, input->frame, input->frame_length, output_area.range,
+                                                                input->output_length);
     }
     guarded_take_back(&image_area);
     guarded_take_back(&output_area);

@@ -536,7 +536,7 @@ def layers():
     p = Picture("layers", "The crates: each stands on those that its arrows point to")
     p.text(24, 26, p.title, 16, "start", "bold")
     p.note(46, "An arrow that follows from others is left out.", 24)
-    high, pitch, most = 48, 76, 11
+    high, pitch, most = 48, 76, 15
     boxes = {
         "octets": (24, 0, 686, FIXED, "lists of octets, numbers, copying, and their laws"),
         "substitution": (24, 1, 112, MAC, "S-box"),
@@ -544,9 +544,13 @@ def layers():
         "key_schedule": (24, 2, 112, MAC, "KeyExpansion"),
         "ghash": (252, 2, 92, MAC, "GHASH"),
         "cipher": (24, 3, 170, MAC, "AES-256"),
-        "cmac": (24, 4, 112, MAC, "CMAC"),
-        "gctr": (145, 4, 98, MAC, "counter mode"),
-        "gcm": (145, 5, 199, MAC, "GCM: seal, open"),
+        "columns": (24, 4, 170, MAC, "a state as four words"),
+        "word_tables": (24, 5, 170, MAC, "tables of a round"),
+        "word_cipher": (24, 6, 170, MAC, "AES-256 on words"),
+        "engines": (24, 7, 170, MAC, "either, by one call"),
+        "cmac": (24, 8, 112, MAC, "CMAC"),
+        "gctr": (145, 8, 98, MAC, "counter mode"),
+        "gcm": (145, 9, 199, MAC, "GCM: seal, open"),
         "headers": (372, 1, 116, NAMES, "header fields"),
         "check_field": (496, 1, 102, NAMES, "the CRC"),
         "kinds": (372, 2, 180, NAMES, "a kind as a record"),
@@ -555,13 +559,13 @@ def layers():
         "bodies": (522, 3, 188, NUMBER, "layouts, fields, rules"),
         "image": (522, 4, 188, NUMBER, "contents, the whole rule"),
         "association": (522, 5, 188, NUMBER, "numbers, search, entries"),
-        "services": (24, 6, 320, DATA, "the two services, the security header"),
-        "protection": (24, 7, 566, DATA, "the secured frame"),
-        "judging": (24, 8, 566, DATA, "the tests of a call, in their order"),
-        "link": (24, 9, 566, DATA, "load, secure, check: judged, then carried out"),
-        "promises": (24, 10, 270, FREE, "theorems alone"),
-        "witnesses": (24, 11, 270, FREE, "that they are not empty"),
-        "link_c": (320, 10, 270, FREE, "the C interface"),
+        "services": (24, 10, 320, DATA, "the two services, the security header"),
+        "protection": (24, 11, 566, DATA, "the secured frame"),
+        "judging": (24, 12, 566, DATA, "the tests of a call, in their order"),
+        "link": (24, 13, 566, DATA, "load, secure, check: judged, then carried out"),
+        "promises": (24, 14, 270, FREE, "theorems alone"),
+        "witnesses": (24, 15, 270, FREE, "that they are not empty"),
+        "link_c": (320, 14, 270, FREE, "the C interface"),
     }
     programs = {
         "link_cases": (7, "runs link"),
@@ -577,7 +581,8 @@ def layers():
         ("protection", "services", 184), ("protection", "frame", 437), ("services", "cmac", 80), ("services", "gcm", 244),
         ("association", "image", 616), ("image", "bodies", 616), ("bodies", "kinds", 537),
         ("bodies", "marks", 638), ("frame", "kinds", 437), ("kinds", "headers", 437), ("gcm", "gctr", 194), ("gcm", "ghash", 298),
-        ("gctr", "cipher", 170), ("gctr", "block", 219), ("ghash", "block", 298), ("cmac", "cipher", 80), ("cipher", "key_schedule", 80),
+        ("gctr", "engines", 170), ("gctr", "block", 219), ("ghash", "block", 298), ("cmac", "engines", 80), ("engines", "word_cipher", 109),
+        ("word_cipher", "word_tables", 109), ("word_tables", "columns", 109), ("columns", "cipher", 109), ("cipher", "key_schedule", 80),
         ("key_schedule", "substitution", 80), ("substitution", "octets", 80), ("block", "octets", 244), ("headers", "octets", 437),
         ("marks", "octets", 638), ("check_field", "octets", 546),
     ]
@@ -592,8 +597,9 @@ def layers():
     def top(row):
         return 64 + pitch * (most - row)
 
-    tall = top(1) + high - top(5) + 24
-    p.add(f'<rect x="12" y="{top(5) - 12}" width="344" height="{tall}" fill="none" stroke="#8a1c12" stroke-dasharray="6 4"/>', 0)
+    lab_top = top(boxes["gcm"][1])
+    tall = top(1) + high - lab_top + 24
+    p.add(f'<rect x="12" y="{lab_top - 12}" width="344" height="{tall}" fill="none" stroke="#8a1c12" stroke-dasharray="6 4"/>', 0)
     for name, (x, row, width, fill, words) in boxes.items():
         p.box(x, top(row), width, high, fill, [name, words], sizes=(14, 12.5))
     for above, below, x in arrows:

@@ -17,6 +17,13 @@ fn with_bit_changed(mac: [u8; 16], at: usize) -> [u8; 16] {
     other
 }
 
+// The same by the engine on words.
+fn is_mac_by_words(key: [u8; 32], head: &[u8], rest: &[u8], published: [u8; 16]) -> bool {
+    let tables = word_tables::word_tables();
+    let expanded = cipher::expand_key(key);
+    check::same(&cmac::mac_under(&tables, &expanded, head, rest), &published)
+}
+
 // Whether the MAC is the published one with the message cut in two at `at`, and is told from one with a bit changed.
 fn is_mac_of_parts(key: [u8; 32], message: &[u8], at: usize, published: [u8; 16]) -> bool {
     if message.len() < at {
@@ -27,7 +34,7 @@ fn is_mac_of_parts(key: [u8; 32], message: &[u8], at: usize, published: [u8; 16]
     let is_made = check::same(&cmac::mac(key, head, rest), &published);
     let is_checked = cmac::check(key, head, rest, published);
     let is_told = !cmac::check(key, head, rest, with_bit_changed(published, at));
-    is_made & is_checked & is_told
+    is_made & is_checked & is_told & is_mac_by_words(key, head, rest, published)
 }
 
 // A message is run cut at every place.

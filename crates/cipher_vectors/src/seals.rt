@@ -89,6 +89,27 @@ fn is_sealed(
     check::same(front(&out, plain.len()), ciphertext) & check::same(&made, &tag)
 }
 
+// The same by the engine on words.
+fn is_sealed_by_words(
+    key: [u8; 32],
+    iv: [u8; 12],
+    additional: &[u8],
+    plain: &[u8],
+    ciphertext: &[u8],
+    tag: [u8; 16],
+) -> bool {
+    let tables = word_tables::word_tables();
+    let expanded = cipher::expand_key(key);
+    let mut out = [0u8; 64];
+    let sealed = gcm::seal_under(&tables, &expanded, iv, additional, plain, &mut out);
+    let answer = sealed.answer;
+    let made = sealed.tag;
+    let gcm::Answer::Done = answer else {
+        return false;
+    };
+    check::same(front(&out, plain.len()), ciphertext) & check::same(&made, &tag)
+}
+
 fn is_opened(
     key: [u8; 32],
     iv: [u8; 12],
@@ -100,6 +121,29 @@ fn is_opened(
     let mut out = [0u8; 64];
     let outcome = gcm::open(key, iv, additional, ciphertext, tag, &mut out);
     let gcm::Outcome::Done = outcome else {
+        return false;
+    };
+    check::same(front(&out, ciphertext.len()), plain)
+}
+
+// The same by the engine on words.
+fn is_opened_by_words(
+    key: [u8; 32],
+    iv: [u8; 12],
+    additional: &[u8],
+    plain: &[u8],
+    ciphertext: &[u8],
+    tag: [u8; 16],
+) -> bool {
+    let tables = word_tables::word_tables();
+    let expanded = cipher::expand_key(key);
+    let mut out = [0u8; 64];
+    let checked = gcm::check_under(&tables, &expanded, iv, additional, ciphertext, tag);
+    let gcm::Checked::Right = checked else {
+        return false;
+    };
+    let answer = gcm::decrypt_under(&tables, &expanded, iv, ciphertext, &mut out);
+    let gcm::Answer::Done = answer else {
         return false;
     };
     check::same(front(&out, ciphertext.len()), plain)
@@ -136,8 +180,14 @@ fn is_right(
     tag: [u8; 16],
 ) -> bool {
     match trial {
-        Trial::Sealed => is_sealed(key, iv, additional, plain, ciphertext, tag),
-        Trial::Opened => is_opened(key, iv, additional, plain, ciphertext, tag),
+        Trial::Sealed => {
+            is_sealed(key, iv, additional, plain, ciphertext, tag)
+                & is_sealed_by_words(key, iv, additional, plain, ciphertext, tag)
+        }
+        Trial::Opened => {
+            is_opened(key, iv, additional, plain, ciphertext, tag)
+                & is_opened_by_words(key, iv, additional, plain, ciphertext, tag)
+        }
         Trial::Refused(_) => is_refused(key, iv, additional, ciphertext, tag),
     }
 }

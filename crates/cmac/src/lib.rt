@@ -1,13 +1,13 @@
 // CMAC (NIST SP 800-38B) with AES-256 and a MAC of 16 octets. A message is given as two parts that lie apart, a head and a body, and is
 // never copied: each block is read from where it lies. A caller that uses a key more than once expands it once, and takes the functions under
-// an expanded key.
+// an expanded key; there it also says which engine is to make the blocks, by the tables that it lends (crate `engines`).
 mod blocks;
 mod message;
 mod subkeys;
 
 use blocks::xor_blocks;
-use cipher::encrypt_block;
 use cipher::expand_key;
+use engines::encrypt_block;
 use message::block_count;
 use message::message_block;
 use octets::same_block;
@@ -15,20 +15,22 @@ use subkeys::next_subkey;
 ghost use mathlib.Core.Path.{_≡_};
 ghost use mathlib.Core.List.{_++_};
 ghost use Rattle.octets.specs.Same.{same};
+ghost use Rattle.engines.specs.Lent.{Lent};
 ghost use Rattle.cmac.specs.Mac.{cmacUnder, cmac};
 
 // The MAC of the message (6.2). The subkeys come first, from the block of zeros under the cipher (6.1); after i turns `chained` is C_i.
-pub fn mac_under(expanded: &[u8; 240], head: &[u8], body: &[u8]) -> [u8; 16]
+pub fn mac_under(tables: &[u32], expanded: &[u8; 240], head: &[u8], body: &[u8]) -> [u8; 16]
+    requires { ⌜ Lent (now tables) ⌝ }
     ensures { λ r. ⌜ r ≡ cmacUnder (now (expanded .entry)) (now (head .entry) ++ now (body .entry)) ⌝ }
 {
-    let first = next_subkey(encrypt_block(expanded, [0u8; 16]));
+    let first = next_subkey(encrypt_block(tables, expanded, [0u8; 16]));
     let second = next_subkey(first);
     let count = block_count(head.len() + body.len());
     let mut chained = [0u8; 16];
     let mut i: usize = 0;
     while i < count {
         let block = message_block(first, second, head, body, i);
-        let next = encrypt_block(expanded, xor_blocks(chained, block));
+        let next = encrypt_block(tables, expanded, xor_blocks(chained, block));
         chained = next;
         i += 1;
     }
@@ -39,19 +41,26 @@ pub fn mac(key: [u8; 32], head: &[u8], body: &[u8]) -> [u8; 16]
     ensures { λ r. ⌜ r ≡ cmac key (now (head .entry) ++ now (body .entry)) ⌝ }
 {
     let expanded = expand_key(key);
-    mac_under(&expanded, head, body)
+    mac_under(&[], &expanded, head, body)
 }
 
 // Whether `mac` is the MAC of the message (6.3). All sixteen octets are compared.
-pub fn check_under(expanded: &[u8; 240], head: &[u8], body: &[u8], mac: [u8; 16]) -> bool
+pub fn check_under(
+    tables: &[u32],
+    expanded: &[u8; 240],
+    head: &[u8],
+    body: &[u8],
+    mac: [u8; 16],
+) -> bool
+    requires { ⌜ Lent (now tables) ⌝ }
     ensures { λ r. ⌜ r ≡ same (cmacUnder (now (expanded .entry)) (now (head .entry) ++ now (body .entry))) mac ⌝ }
 {
-    same_block(mac_under(expanded, head, body), mac)
+    same_block(mac_under(tables, expanded, head, body), mac)
 }
 
 pub fn check(key: [u8; 32], head: &[u8], body: &[u8], mac: [u8; 16]) -> bool
     ensures { λ r. ⌜ r ≡ same (cmac key (now (head .entry) ++ now (body .entry))) mac ⌝ }
 {
     let expanded = expand_key(key);
-    check_under(&expanded, head, body, mac)
+    check_under(&[], &expanded, head, body, mac)
 }

@@ -1,6 +1,7 @@
 // GCM (SP 800-38D) with AES-256, an IV of 96 bits and a tag of 128 bits. What a call answers and leaves in its output is given, from the
 // values at its entry, by a definition of specs/Calls. A caller that uses a key more than once expands it once, and takes the functions under
-// an expanded key. `decrypt` looks at no tag: it is for a caller that has had `Right` of `check`.
+// an expanded key; there it also says which engine is to make the blocks, by the tables that it lends (crate `engines`). `decrypt` looks at no
+// tag: it is for a caller that has had `Right` of `check`.
 mod steps;
 
 use cipher::expand_key;
@@ -8,6 +9,7 @@ use steps::crypt;
 use steps::make_tag;
 use steps::tag_is;
 ghost use mathlib.Core.Path.{_≡_};
+ghost use Rattle.engines.specs.Lent.{Lent};
 ghost use Rattle.gcm.specs.Lengths.{textTooLong, tooLong};
 ghost use Rattle.gcm.specs.Calls.{call, sealedUnder, sealed, checkedUnder, checked, decryptedUnder, decrypted, opened};
 
@@ -58,12 +60,14 @@ fn too_long(additional: &[u8], text: &[u8]) -> bool
 
 // 7.1: the ciphertext to the front of out, and the tag.
 pub fn seal_under(
+    tables: &[u32],
     expanded: &[u8; 240],
     iv: [u8; 12],
     additional: &[u8],
     plain: &[u8],
     out: &mut [u8],
 ) -> Sealed
+    requires { ⌜ Lent (now tables) ⌝ }
     ensures { λ r. ⌜ call r (now (out .exit)) ≡ sealedUnder (now (expanded .entry)) iv (now (additional .entry)) (now (plain .entry)) (now (out .entry)) ⌝ }
 {
     if too_long(additional, plain) {
@@ -79,8 +83,8 @@ pub fn seal_under(
             tag: [0; 16],
         };
     }
-    crypt(expanded, iv, plain, out);
-    let tag = make_tag(expanded, iv, additional, &out[..n]);
+    crypt(tables, expanded, iv, plain, out);
+    let tag = make_tag(tables, expanded, iv, additional, &out[..n]);
     Sealed {
         answer: Answer::Done,
         tag,
@@ -91,23 +95,25 @@ pub fn seal(key: [u8; 32], iv: [u8; 12], additional: &[u8], plain: &[u8], out: &
     ensures { λ r. ⌜ call r (now (out .exit)) ≡ sealed key iv (now (additional .entry)) (now (plain .entry)) (now (out .entry)) ⌝ }
 {
     let expanded = expand_key(key);
-    seal_under(&expanded, iv, additional, plain, out)
+    seal_under(&[], &expanded, iv, additional, plain, out)
 }
 
 // 7.2 but for step 4: whether the tag is the ciphertext's.
 pub fn check_under(
+    tables: &[u32],
     expanded: &[u8; 240],
     iv: [u8; 12],
     additional: &[u8],
     ciphertext: &[u8],
     tag: [u8; 16],
 ) -> Checked
+    requires { ⌜ Lent (now tables) ⌝ }
     ensures { λ r. ⌜ r ≡ checkedUnder (now (expanded .entry)) iv (now (additional .entry)) (now (ciphertext .entry)) tag ⌝ }
 {
     if too_long(additional, ciphertext) {
         return Checked::TooLong;
     }
-    if tag_is(expanded, iv, additional, ciphertext, tag) {
+    if tag_is(tables, expanded, iv, additional, ciphertext, tag) {
         Checked::Right
     } else {
         Checked::Wrong
@@ -124,16 +130,18 @@ pub fn check(
     ensures { λ r. ⌜ r ≡ checked key iv (now (additional .entry)) (now (ciphertext .entry)) tag ⌝ }
 {
     let expanded = expand_key(key);
-    check_under(&expanded, iv, additional, ciphertext, tag)
+    check_under(&[], &expanded, iv, additional, ciphertext, tag)
 }
 
 // 7.2, step 4: the plaintext to the front of out, for a caller that has seen the tag to be right.
 pub fn decrypt_under(
+    tables: &[u32],
     expanded: &[u8; 240],
     iv: [u8; 12],
     ciphertext: &[u8],
     out: &mut [u8],
 ) -> Answer
+    requires { ⌜ Lent (now tables) ⌝ }
     ensures { λ r. ⌜ call r (now (out .exit)) ≡ decryptedUnder (now (expanded .entry)) iv (now (ciphertext .entry)) (now (out .entry)) ⌝ }
 {
     if text_too_long(ciphertext) {
@@ -142,7 +150,7 @@ pub fn decrypt_under(
     if out.len() < ciphertext.len() {
         return Answer::NoRoom;
     }
-    crypt(expanded, iv, ciphertext, out);
+    crypt(tables, expanded, iv, ciphertext, out);
     Answer::Done
 }
 
@@ -150,7 +158,7 @@ pub fn decrypt(key: [u8; 32], iv: [u8; 12], ciphertext: &[u8], out: &mut [u8]) -
     ensures { λ r. ⌜ call r (now (out .exit)) ≡ decrypted key iv (now (ciphertext .entry)) (now (out .entry)) ⌝ }
 {
     let expanded = expand_key(key);
-    decrypt_under(&expanded, iv, ciphertext, out)
+    decrypt_under(&[], &expanded, iv, ciphertext, out)
 }
 
 // 7.2: the plaintext to the front of out if the tag is right; if it is not, out stays as it was.
@@ -168,12 +176,12 @@ pub fn open(
         return Outcome::TooLong;
     }
     let expanded = expand_key(key);
-    if !tag_is(&expanded, iv, additional, ciphertext, tag) {
+    if !tag_is(&[], &expanded, iv, additional, ciphertext, tag) {
         return Outcome::Wrong;
     }
     if out.len() < ciphertext.len() {
         return Outcome::NoRoom;
     }
-    crypt(&expanded, iv, ciphertext, out);
+    crypt(&[], &expanded, iv, ciphertext, out);
     Outcome::Done
 }

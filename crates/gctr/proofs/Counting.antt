@@ -1,21 +1,21 @@
 -- GCTR octet by octet: octet i of the output is octet i of the text, added to octet i % 16 of the counter block number i / 16, enciphered.
 --     octet-form     the standard's block form is this octet form
---     Streaming      what a loop that goes octet by octet keeps, with streaming-none, streaming-more, streaming-all
+--     Streaming      what a loop that goes block by block keeps, with streaming-none, streaming-more, streaming-all
 -- Assumes nothing.
 use mathlib.Core.Path.{_≡_, refl, sym, ap, ap₂, _∙_}
 use mathlib.Core.List.{List, [], _∷_, _++_}
-use Prim.Native.Nat.{ℕ, zero, suc, _+_, _/_, _%_, _≤_, _<_}
-use native.Mathlib.Numerals.{add-one}
+use Prim.Native.Nat.{ℕ, zero, suc, min, _+_, _-_, _/_, _%_, _≤_, _<_}
+use native.Mathlib.Nat.{zero-add}
 use native.Mathlib.Omega.{arith}
 use lib.Bits.{xor-lt}
-use lib.ListN.{length, take, drop, set, length-set, length-drop, take-append-drop}
-use lib.Seq.{take-suc-set, drop-set-lt, drop-drop, getD-drop}
+use lib.ListN.{length, take, drop, length-drop}
+use lib.Seq.{paste, length-take-le, take-length, take-at, take-add, drop-at, drop-drop, getD-drop}
 use Rattle.octets.specs.Lists.{octet, tab, Octets}
 use Rattle.octets.specs.Output.{fronted}
 use Rattle.octets.specs.Xor.{_⊕_, xors}
 use Rattle.octets.proofs.Bounds.{octets-tab}
 use Rattle.octets.proofs.Filling.{with-room, without-room}
-use Rattle.octets.proofs.Parts.{tab-add, tab-self}
+use Rattle.octets.proofs.Parts.{tab-add, tab-self, tab-part}
 use Rattle.octets.proofs.Rules.{length-tab, tab-ext, octet-tab}
 use Rattle.octets.proofs.XorLaws.{xor-undo}
 use Rattle.cipher.proofs.Laws.{octets-cipher}
@@ -90,78 +90,73 @@ module _ (w : List ℕ) where
       (octets-tab (length x) (streamed w icb x)
       (λ i h. xor-lt 8 (octet x i) _ (hx i) (octets-cipher w _ hw (i % 16))))
 
--- the first i octets are written, and the rest stands as it was
-pub record Front (f : ℕ → ℕ) (old out : List ℕ) (i : ℕ) : Type 0 where
-  pub long : length out ≡ length old
-  pub front : take i out ≡ tab i f
-  pub rest : drop i out ≡ drop i old
-
-front-next : {f : ℕ → ℕ} {old out : List ℕ} {i : ℕ} → i < length old → Front f old out i → Front f old (set out i (f i)) (i + 1)
-unfolding tab
-front-next {f} {old} {out} {i} h g =
-    let l : i < length out = omega (arith, g .long) in
-    record {
-      long = length-set out i (f i) ∙ g .long;
-      front = rw add-one (take-suc-set out i (f i) l ∙ ap (λ (a : List ℕ). a ++ (f i ∷ [])) (g .front));
-      rest =
-          drop-set-lt (i + 1) out i (f i) (omega arith)
-          ∙ sym (drop-drop 1 i out)
-          ∙ ap (drop 1) (g .rest)
-          ∙ drop-drop 1 i old;
-    }
-
--- before octet i: the next counter block, and within a block the one that is in use, enciphered
-pub record Streaming (w src old out stream : List ℕ) (icb cb i : ℕ) : Type 0 where
-  pub counted : cb ≡ counter (blocks i) icb
-  pub enciphered : 0 < i % 16 → stream ≡ ciph w (counter (i / 16) icb)
-  pub output : Front (streamed w icb src) old out i
+-- before the block at a place: as much of the result is written, the rest stands, and the counter block is that of the place
+pub record Streaming (w src old out : List ℕ) (icb cb at : ℕ) : Type 0 where
+  pub within : at ≤ length src
+  pub counted : at < length src → (at % 16 ≡ 0) × (cb ≡ counter (at / 16) icb)
+  pub output : out ≡ take at (gctr w icb src) ++ drop at old
 
 module _ (w src old : List ℕ) (icb : ℕ) where
-  pub streaming-none : (stream : List ℕ) → Streaming w src old old stream icb icb 0
-  unfolding counter tab
-  streaming-none stream =
-      record { counted = refl; enciphered = λ h. absurd (omega arith); output = record { long = refl; front = refl; rest = refl } }
+  pub streaming-none : Streaming w src old old icb icb 0
+  unfolding counter
+  streaming-none = record { within = omega arith; counted = λ h. (refl, refl); output = refl }
 
-  module _ (out stream : List ℕ) (cb i : ℕ) (h : i < length src) (room : length src ≤ length old) where
-    one-octet : stream ≡ ciph w (counter (i / 16) icb) → cb ≡ counter (i / 16 + 1) icb → Front (streamed w icb src) old out i
-        → Streaming w src old (set out i (octet src i ⊕ octet stream (i % 16))) stream icb cb (i + 1)
-    one-octet es ec g =
-        let next : i / 16 + 1 ≡ blocks (i + 1) = omega arith in
-        let o : octet src i ⊕ octet stream (i % 16) ≡ streamed w icb src i =
-        ap (λ (l : List ℕ). octet src i ⊕ octet l (i % 16)) es
-        in
+  -- the sums of the text's octets at a place and the enciphered counter block are those of the result
+  sums : (at n : ℕ) → at % 16 ≡ 0 → n ≤ 16 → at + n ≤ length src
+      → take n (xors 16 (drop at src) (ciph w (counter (at / 16) icb))) ≡ take n (drop at (gctr w icb src))
+  unfolding xors
+  sums at n m small inside =
+      let text : List ℕ = gctr w icb src in
+      let stream : List ℕ = ciph w (counter (at / 16) icb) in
+      let added : List ℕ = xors 16 (drop at src) stream in
+      sym (tab-part n 0 added (omega (arith, length-tab 16 (λ j. octet (drop at src) j ⊕ octet stream j))))
+      ∙ tab-ext n
+      (λ j h.
+      let d : at / 16 ≡ (at + j) / 16 = omega arith in
+      let r : j ≡ (at + j) % 16 = omega arith in
+      ap (octet added) (zero-add j)
+      ∙ octet-tab 16 _ j (omega arith)
+      ∙ ap₂ _⊕_ (getD-drop at src j 0) (ap₂ (λ (b k : ℕ). octet (ciph w (counter b icb)) k) d r)
+      ∙ sym (ap (λ (l : List ℕ). octet l (at + j)) (octet-form w icb src) ∙ octet-tab (length src) (streamed w icb src) (at + j) (omega arith)))
+      ∙ tab-part n at text (omega (arith, length-gctr w icb src))
+
+  module _ (room : length src ≤ length old) {out stream next : List ℕ} {cb cb₁ at n : ℕ} (h : at < length src) where
+    pub streaming-more : n ≡ min 16 (length src - at) → stream ≡ ciph w cb → next ≡ paste out at (xors 16 (drop at src) stream) n → cb₁ ≡ inc32 cb
+        → Streaming w src old out icb cb at → Streaming w src old next icb cb₁ (at + n)
+    unfolding counter
+    streaming-more en es eo ec g =
+        let text : List ℕ = gctr w icb src in
+        let m : at % 16 ≡ 0 = g .counted h .0 in
+        let small : n ≤ 16 = omega arith in
+        let inside : at + n ≤ length src = omega arith in
+        let front : length (take at text) ≡ at = length-take-le at text (omega (arith, length-gctr w icb src)) in
+        let es₁ : stream ≡ ciph w (counter (at / 16) icb) = es ∙ ap (ciph w) (g .counted h .1) in
         record {
-          counted = ec ∙ ap (λ (n : ℕ). counter n icb) next;
-          enciphered = λ k. let e : i / 16 ≡ (i + 1) / 16 = omega arith in es ∙ ap (λ (n : ℕ). ciph w (counter n icb)) e;
-          output = rw o (front-next (omega arith) g);
+          within = inside;
+          counted =
+              λ k.
+              let b : suc (at / 16) ≡ (at + n) / 16 = omega arith in
+              (omega arith, ec ∙ ap inc32 (g .counted h .1) ∙ ap (λ (b : ℕ). counter b icb) b);
+          output =
+              eo
+              ∙ ap₂ _++_
+              (ap₂ _++_ (ap (take at) (g .output) ∙ take-at (take at text) (drop at old) at front)
+              (ap (λ (l : List ℕ). take n (xors 16 (drop at src) l)) es₁ ∙ sums at n m small inside)
+              ∙ sym (take-add at n text))
+              (sym (drop-drop n at out)
+              ∙ ap (drop n) (ap (drop at) (g .output) ∙ drop-at (take at text) (drop at old) at front)
+              ∙ drop-drop n at old);
         }
 
-    -- at the first octet of a block
-    pub streaming-begun : {last : List ℕ} {cb₀ : ℕ} → i % 16 ≡ 0 → stream ≡ ciph w cb₀ → cb ≡ inc32 cb₀
-        → Streaming w src old out last icb cb₀ i
-        → Streaming w src old (set out i (octet src i ⊕ octet stream (i % 16))) stream icb cb (i + 1)
-    unfolding counter
-    streaming-begun {last} {cb₀} m es ec g =
-        let e : blocks i ≡ i / 16 = omega arith in
-        let e₀ : cb₀ ≡ counter (i / 16) icb = g .counted ∙ ap (λ (n : ℕ). counter n icb) e in
-        one-octet (es ∙ ap (ciph w) e₀) (ec ∙ ap inc32 e₀ ∙ ap (λ (n : ℕ). counter n icb) (sym (add-one (i / 16)))) (g .output)
-
-    -- at any other
-    pub streaming-more : {last : List ℕ} {cb₀ : ℕ} → (i % 16 ≡ 0 → ⊥) → stream ≡ last → cb ≡ cb₀ → Streaming w src old out last icb cb₀ i
-        → Streaming w src old (set out i (octet src i ⊕ octet stream (i % 16))) stream icb cb (i + 1)
-    streaming-more m es ec g =
-        let e : blocks i ≡ i / 16 + 1 = omega arith in
-        one-octet (es ∙ g .enciphered (omega arith)) (ec ∙ g .counted ∙ ap (λ (n : ℕ). counter n icb) e) (g .output)
-
-  pub streaming-all : (out stream : List ℕ) (cb i : ℕ) → i ≡ length src → length src ≤ length old → Streaming w src old out stream icb cb i
+  pub streaming-all : {out : List ℕ} {cb at : ℕ} → length src ≤ at → length src ≤ length old → Streaming w src old out icb cb at
       → out ≡ fronted (gctr w icb src) old
-  streaming-all out stream cb i e room g =
-      let enough : length (gctr w icb src) ≤ length old = omega (arith, length-gctr w icb src) in
-      sym (take-append-drop i out)
-      ∙ ap₂ _++_ (g .output .front) (g .output .rest)
-      ∙ ap₂ (λ (m n : ℕ). tab m (streamed w icb src) ++ drop n old) e (e ∙ sym (length-gctr w icb src))
-      ∙ ap (λ (l : List ℕ). l ++ drop (length (gctr w icb src)) old) (sym (octet-form w icb src))
-      ∙ sym (with-room (gctr w icb src) old enough)
+  streaming-all {out} {cb} {at} past room g =
+      let text : List ℕ = gctr w icb src in
+      let e : at ≡ length text = omega (arith, g .within, length-gctr w icb src) in
+      g .output
+      ∙ ap (λ (k : ℕ). take k text ++ drop k old) e
+      ∙ ap (λ (l : List ℕ). l ++ drop (length text) old) (take-length text)
+      ∙ sym (with-room text old (omega (arith, length-gctr w icb src)))
 
   pub streaming-refused : length old < length src → old ≡ fronted (gctr w icb src) old
   streaming-refused short = sym (without-room (gctr w icb src) old (omega (arith, length-gctr w icb src)))

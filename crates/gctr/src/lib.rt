@@ -1,9 +1,16 @@
-// SP 800-38D, 6.2 and 6.5: the counter's increment, and GCTR, Algorithm 3, with AES-256 under an expanded key.
+// SP 800-38D, 6.2 and 6.5: the counter's increment, and GCTR, Algorithm 3, with AES-256 under an expanded key. The tables say which engine
+// makes the blocks (crate `engines`).
 use block::Block;
 use block::store;
+use engines::encrypt_block;
 ghost use mathlib.Core.Path.{_≡_};
+ghost use Prim.Native.Nat.{min, _-_, _≤_};
+ghost use lib.ListN.{length, drop};
+ghost use lib.Seq.{paste};
 ghost use Rattle.octets.specs.Output.{fronted};
+ghost use Rattle.octets.specs.Xor.{xors};
 ghost use Rattle.block.specs.Halves.{value};
+ghost use Rattle.engines.specs.Lent.{Lent};
 ghost use Rattle.gctr.specs.Increment.{inc32};
 ghost use Rattle.gctr.specs.Gctr.{ciph, gctr};
 
@@ -17,29 +24,43 @@ pub fn increment(b: Block) -> Block
 }
 
 // CIPH_K of a block, K given by its expansion.
-pub fn encipher(expanded: &[u8; 240], b: Block) -> [u8; 16]
+pub fn encipher(tables: &[u32], expanded: &[u8; 240], b: Block) -> [u8; 16]
+    requires { ⌜ Lent (now tables) ⌝ }
     ensures { λ r. ⌜ r ≡ ciph (now (expanded .entry)) (value b) ⌝ }
 {
-    cipher::encrypt_block(expanded, store(b))
+    encrypt_block(tables, expanded, store(b))
 }
 
-// GCTR_K(ICB, X) for X = src, to the front of out, which stays as it was where it has no room. The counter block is enciphered, and counted
-// on, at the first octet of each block of X.
-pub fn apply(expanded: &[u8; 240], icb: Block, src: &[u8], out: &mut [u8])
+// The octets of src from a place on, as many as a block has at most, each added to one of the stream, to the same places of out; how many.
+fn add_stream(stream: [u8; 16], src: &[u8], at: usize, out: &mut [u8]) -> usize
+    requires { ⌜ at ≤ length (now src) ⌝ }
+    requires { ⌜ length (now src) ≤ length (now out) ⌝ }
+    ensures { λ r. ⌜ (r ≡ min 16 (length (now (src .entry)) - at)) × (now (out .exit) ≡ paste (now (out .entry)) at (xors 16 (drop at (now (src .entry))) stream) r) ⌝ }
+{
+    let mut n = src.len() - at;
+    if 16 < n {
+        n = 16;
+    }
+    let mut j: usize = 0;
+    while j < n {
+        out[at + j] = src[at + j] ^ stream[j];
+        j += 1;
+    }
+    n
+}
+
+// GCTR_K(ICB, X) for X = src, to the front of out, which stays as it was where it has no room: a block a turn.
+pub fn apply(tables: &[u32], expanded: &[u8; 240], icb: Block, src: &[u8], out: &mut [u8])
+    requires { ⌜ Lent (now tables) ⌝ }
     ensures { λ _. ⌜ now (out .exit) ≡ fronted (gctr (now (expanded .entry)) (value icb) (now (src .entry))) (now (out .entry)) ⌝ }
 {
     if out.len() < src.len() {
         return;
     }
     let mut cb = icb;
-    let mut stream = [0u8; 16];
-    let mut i: usize = 0;
-    while i < src.len() {
-        if i % 16 == 0 {
-            stream = encipher(expanded, cb);
-            cb = increment(cb);
-        }
-        out[i] = src[i] ^ stream[i % 16];
-        i += 1;
+    let mut at: usize = 0;
+    while at < src.len() {
+        at += add_stream(encipher(tables, expanded, cb), src, at, out);
+        cb = increment(cb);
     }
 }

@@ -14,11 +14,13 @@ ghost use mathlib.Core.Path.{_≡_};
 ghost use mathlib.Core.Bool.{true};
 ghost use Rattle.kinds.specs.Kinds.{framed};
 ghost use Rattle.frame.specs.Rules.{obeys};
+ghost use Rattle.engines.specs.Lent.{Lent};
 ghost use Rattle.protection.specs.Steps.{openingOf};
 ghost use Rattle.judging.specs.Verdicts.{Judged, receivingJudged};
 
 // Whether the data is released, after the last number used. The MAC is judged before the window. Nothing is changed, and nothing decrypted.
 pub fn judge_receiving(
+    tables: &[u32],
     image: &[u8],
     entry: u8,
     last: u32,
@@ -26,6 +28,7 @@ pub fn judge_receiving(
     frame: &[u8],
     room: usize,
 ) -> Verdict
+    requires { ⌜ Lent (now tables) ⌝ }
     requires { ⌜ (obeys (framed (opening .framing)) (now frame) true ≡ true) × (opening ≡ openingOf (opening .framing) (opening .held) (now frame)) ⌝ }
     ensures { λ r. ⌜ Judged r (receivingJudged (now (image .entry)) entry (opening .held) last (framed (opening .framing)) (now (frame .entry)) room) ⌝ }
 {
@@ -38,7 +41,7 @@ pub fn judge_receiving(
     if room < size {
         return Verdict::Refused(Answer::NoRoom);
     }
-    if !mac_right(opening, frame) {
+    if !mac_right(tables, opening, frame) {
         return Verdict::Refused(Answer::WrongMac);
     }
     let sequence = number_of(opening, frame);

@@ -17,6 +17,7 @@ ghost use lib.ListN.{length, set};
 ghost use Rattle.octets.specs.Output.{written};
 ghost use Rattle.kinds.specs.Kinds.{framed};
 ghost use Rattle.frame.specs.Rules.{obeys};
+ghost use Rattle.engines.specs.Lent.{Lent};
 ghost use Rattle.marks.specs.Stores.{storesIn};
 ghost use Rattle.protection.specs.Protection.{securedFrame};
 ghost use Rattle.protection.specs.Steps.{Securable};
@@ -26,6 +27,7 @@ ghost use Rattle.link.specs.Steps.{sendingReply};
 
 // The frame goes out behind its stores: `made` is how many of them were made, and has to be all.
 fn hand_out(
+    tables: &[u32],
     grant: Grant,
     made: u32,
     numbers: Numbers,
@@ -35,17 +37,19 @@ fn hand_out(
     frame: &[u8],
     output: &mut [u8],
 ) -> Outcome
+    requires { ⌜ Lent (now tables) ⌝ }
     requires { ⌜ made ≡ storesIn (grant .plan) ⌝ }
     requires { ⌜ Securable held (framed framing) (now frame) (length (now output)) ⌝ }
     ensures { λ r. ⌜ (reported (r .answer) ≡ granted (grant .size) (storesIn (grant .plan))) × (r .numbers .last ≡ set (numbers .last) (grant .entry) (grant .number)) ⌝ }
     ensures { λ _. ⌜ now (output .exit) ≡ written (securedFrame held (framed framing) spi (grant .number) (now (frame .entry))) (now (output .entry)) ⌝ }
 {
-    write_secured(framing, held, spi, grant.number, frame, output);
+    write_secured(tables, framing, held, spi, grant.number, frame, output);
     carried_out(grant, made, numbers)
 }
 
 // Under the entry that matches: judged, and then carried out.
 pub(crate) fn secure_under(
+    tables: &[u32],
     image: &mut [u8],
     numbers: Numbers,
     framing: Framing,
@@ -54,6 +58,7 @@ pub(crate) fn secure_under(
     frame: &[u8],
     output: &mut [u8],
 ) -> Outcome
+    requires { ⌜ Lent (now tables) ⌝ }
     requires { ⌜ obeys (framed framing) (now frame) false ≡ true ⌝ }
     ensures { λ r. ⌜ leaving r (now (image .exit)) (now (output .exit)) ≡ left (sendingReply (now (image .entry)) (numbers .last) entry (framed framing) spi (now (frame .entry)) (length (now (output .entry)))) (now (image .entry)) (numbers .last) (now (output .entry)) ⌝ }
 {
@@ -65,7 +70,17 @@ pub(crate) fn secure_under(
         Verdict::Granted(grant) => {
             let plan = grant.plan;
             let made = make_all(image, plan);
-            hand_out(grant, made, numbers, framing, held, spi, frame, output)
+            hand_out(
+                tables,
+                grant,
+                made,
+                numbers,
+                framing,
+                held,
+                spi,
+                frame,
+                output,
+            )
         }
     }
 }

@@ -16,6 +16,7 @@ ghost use mathlib.Core.Path.{_≡_};
 ghost use Prim.Native.Nat.{_+_, _*_, _≤_};
 ghost use lib.ListN.{length};
 ghost use Rattle.kinds.specs.Kinds.{framed};
+ghost use Rattle.engines.specs.Lent.{Lent};
 ghost use Rattle.octets.specs.Output.{written};
 ghost use Rattle.protection.specs.Protection.{numberIn, macRight, clearData, clearLength};
 ghost use Rattle.protection.specs.Steps.{openingOf, Opens};
@@ -61,7 +62,8 @@ pub fn number_of(opening: Opening, frame: &[u8]) -> Sequence
 }
 
 // The whole MAC is compared, with no early exit.
-pub fn mac_right(opening: Opening, frame: &[u8]) -> bool
+pub fn mac_right(tables: &[u32], opening: Opening, frame: &[u8]) -> bool
+    requires { ⌜ Lent (now tables) ⌝ }
     requires { ⌜ Opens opening (now frame) ⌝ }
     ensures { λ r. ⌜ r ≡ macRight (opening .held) (framed (opening .framing)) (now (frame .entry)) ⌝ }
 {
@@ -76,6 +78,7 @@ pub fn mac_right(opening: Opening, frame: &[u8]) -> bool
     let covered = cover(framing, mask, security - header, frame, &mut before);
     let mac = block_at(frame, content);
     mac_is_right(
+        tables,
         held,
         &expanded,
         &frame[header..security],
@@ -86,7 +89,8 @@ pub fn mac_right(opening: Opening, frame: &[u8]) -> bool
 }
 
 // The clear data to the front of the output.
-pub fn release_data(opening: Opening, frame: &[u8], output: &mut [u8])
+pub fn release_data(tables: &[u32], opening: Opening, frame: &[u8], output: &mut [u8])
+    requires { ⌜ Lent (now tables) ⌝ }
     requires { ⌜ Opens opening (now frame) × (clearLength (opening .held) (framed (opening .framing)) (now frame) ≤ length (now output)) ⌝ }
     ensures { λ _. ⌜ now (output .exit) ≡ written (clearData (opening .held) (framed (opening .framing)) (now (frame .entry))) (now (output .entry)) ⌝ }
 {
@@ -96,6 +100,7 @@ pub fn release_data(opening: Opening, frame: &[u8], output: &mut [u8])
     let security = opening.parts.security;
     let content = opening.parts.content;
     release(
+        tables,
         held,
         &expanded,
         &frame[header..security],

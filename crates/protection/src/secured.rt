@@ -19,6 +19,7 @@ ghost use Rattle.kinds.specs.Kinds.{checkFieldLength, framed};
 ghost use Rattle.frame.specs.Closing.{closed};
 ghost use Rattle.frame.specs.Parts.{headerOf};
 ghost use Rattle.octets.specs.Output.{written};
+ghost use Rattle.engines.specs.Lent.{Lent};
 ghost use Rattle.services.specs.SecurityHeader.{securityLength};
 ghost use Rattle.protection.specs.Protection.{coveredIn, securedFrame};
 ghost use Rattle.services.specs.Steps.{textUnder, macUnder};
@@ -39,12 +40,14 @@ fn write_headers(framing: Framing, size: usize, security: &[u8], frame: &[u8], o
 // The data as it goes out, behind the headers that stand in the output, and its MAC. What the MAC covers before the data is read from the
 // output, where the length is rewritten already.
 fn write_text(
+    tables: &[u32],
     framing: Framing,
     held: Held,
     security: &[u8],
     clear: &[u8],
     output: &mut [u8],
 ) -> [u8; 16]
+    requires { ⌜ Lent (now tables) ⌝ }
     requires { ⌜ (length (now security) ≡ securityLength held) × (length (now clear) ≤ 2048) × (framed framing .header (now output) + securityLength held + length (now clear) ≤ length (now output)) ⌝ }
     ensures { λ r. ⌜ r ≡ macUnder held (now (security .entry)) (coveredIn held (framed framing) (now (output .entry))) (textUnder held (now (security .entry)) (now (clear .entry))) ⌝ }
     ensures { λ _. ⌜ now (output .exit) ≡ take (framed framing .header (now (output .entry)) + securityLength held) (now (output .entry)) ++ written (textUnder held (now (security .entry)) (now (clear .entry))) (drop (framed framing .header (now (output .entry)) + securityLength held) (now (output .entry))) ⌝ }
@@ -53,6 +56,7 @@ fn write_text(
     let mut before: [u8; MOST_BEFORE] = [0; MOST_BEFORE];
     let covered = cover(framing, mask, security.len(), output, &mut before);
     protect(
+        tables,
         held,
         security,
         &before[..covered],
@@ -72,8 +76,9 @@ fn close(framing: Framing, n: usize, output: &mut [u8])
     }
 }
 
-// The secured frame of a clear one.
+// The secured frame of a clear one. The tables say which engine makes the blocks of the cipher.
 pub fn write_secured(
+    tables: &[u32],
     framing: Framing,
     held: Held,
     spi: u16,
@@ -81,6 +86,7 @@ pub fn write_secured(
     frame: &[u8],
     output: &mut [u8],
 )
+    requires { ⌜ Lent (now tables) ⌝ }
     requires { ⌜ Securable held (framed framing) (now frame) (length (now output)) ⌝ }
     ensures { λ _. ⌜ now (output .exit) ≡ written (securedFrame held (framed framing) spi n (now (frame .entry))) (now (output .entry)) ⌝ }
 {
@@ -100,6 +106,7 @@ pub fn write_secured(
         output,
     );
     let mac = write_text(
+        tables,
         framing,
         held,
         &octets[..long],

@@ -1,5 +1,5 @@
 -- What the two services make of data, by the calls of the cipher crates: the IV is the field of a security header, and within the lengths
--- of a frame no call finds a text too long. What comes in is read under the expansion w of the key.
+-- of a frame no call finds a text too long. All of it is under the expansion w of the key.
 -- Assumes nothing.
 use Prim.Native.Nat.{ℕ, _-_, _^_, _≤_}
 use mathlib.Core.Path.{_≡_, refl, _∙_}
@@ -15,13 +15,13 @@ use Rattle.octets.specs.Same.{same}
 use Rattle.octets.proofs.Parts.{part-inside}
 use Rattle.key_schedule.specs.KeyExpansion.{keyExpansion}
 use Rattle.cmac.specs.Mac.{cmacUnder}
-use Rattle.gcm.specs.Calls.{call, withTag, sealed, checkedUnder, decryptedUnder}
+use Rattle.gcm.specs.Calls.{call, withTag, sealedUnder, checkedUnder, decryptedUnder}
 use Rattle.gcm.specs.Encryption.{tag}
 use Rattle.octets.specs.Output.{written}
 use Rattle.gcm.specs.declared.Answer.the-variants as answer
 use Rattle.gcm.specs.declared.Checked.{Checked}
 use Rattle.gcm.specs.declared.Checked.the-variants as verdict
-use Rattle.gcm.proofs.Laws.{text-limit, allowed, sealed-done, decryptedUnder-done}
+use Rattle.gcm.proofs.Laws.{text-limit, allowed, sealedUnder-done, decryptedUnder-done}
 use Rattle.association.specs.declared.held.Held.{Held}
 use Rattle.services.specs.SecurityHeader.{securityLength}
 use Rattle.services.specs.Steps.{textUnder, clearUnder, macUnder}
@@ -45,12 +45,12 @@ module _ (h : Held) (security : List ℕ) (two : h .service ≡ 2) (long : lengt
       read ∙ part-inside 2 12 security (omega arith) ∙ take-all 12 (drop 2 security) (simp length-drop (omega arith))
 
   module _ (before : List ℕ) (lb : length before ≤ 2048) where
-    pub sealing : (clear out : List ℕ) → length clear ≤ 2048 → length clear ≤ length out
+    pub sealing : (w : List ℕ) → w ≡ keyExpansion (h .key) → (clear out : List ℕ) → length clear ≤ 2048 → length clear ≤ length out
         → let text = textUnder h security clear in
-        sealed (h .key) iv before clear out ≡ call (withTag answer.Done (macUnder h security before text)) (written text out)
-    sealing clear out lc room =
-        rw (encrypts (h .service) two, textUnder, macUnder, iv-read)
-        (sealed-done (h .key) (drop 2 security) before clear out (allowed before clear (omega arith) (omega arith)) room)
+        sealedUnder w iv before clear out ≡ call (withTag answer.Done (macUnder h security before text)) (written text out)
+    sealing w expanded clear out lc room =
+        rw (encrypts (h .service) two, textUnder, macUnder, iv-read, expanded)
+        (sealedUnder-done (keyExpansion (h .key)) (drop 2 security) before clear out (allowed before clear (omega arith) (omega arith)) room)
 
     pub judging : (w : List ℕ) → w ≡ keyExpansion (h .key) → (text mac : List ℕ) → length text ≤ 2048
         → same (macUnder h security before text) mac ≡ rightly (checkedUnder w iv before text mac)

@@ -10,7 +10,7 @@ use Rattle.cmac.proofs.check_under.Tie as tie
 
 returns : tie.Need-returns
 returns c =
-    let given = c .before .before .before .before .args in
+    let given = c .before .before .before .before .before .args in
     c .same-block .ensures ∙ ap (λ (x : List ℕ). same x (given .mac)) (c .before .mac-under .ensures)
 
 pub check-under-spec : {M : Type 1} → statement M

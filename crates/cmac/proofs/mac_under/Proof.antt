@@ -14,12 +14,12 @@ use Rattle.cmac.proofs.mac_under.Statement.{statement}
 use Rattle.cmac.proofs.mac_under.Tie as tie
 
 abbrev Inv-loop : tie.InvT-loop
-Inv-loop expanded head body first second count chained₀ i₀ chained i =
+Inv-loop tables expanded head body first second count chained₀ i₀ chained i =
     (i ≤ count)
     × (first ≡ k1 expanded → second ≡ k2 expanded → chained ≡ chain expanded (head ++ body) i)
 
 abbrev μ-loop : tie.MeasureT-loop
-μ-loop expanded head body first second count chained₀ i₀ chained i = count - i
+μ-loop tables expanded head body first second count chained₀ i₀ chained i = count - i
 
 loop-holds : tie.Need-loop-holds Inv-loop μ-loop
 unfolding chain tab
@@ -47,7 +47,7 @@ returns c =
     let second = counting .before in
     let first = second .before in
     let zero = first .before in
-    let given = zero .before .before .before .args in
+    let given = zero .before .before .before .before .args in
     let w = given .expanded .now in
     let e1 = first-is w (zero .encrypt-block .ensures) (first .next-subkey .ensures) in
     let e2 = second-is w e1 (second .next-subkey2 .ensures) in

@@ -7,10 +7,10 @@ use Rattle.gcm.proofs.check.Tie as tie
 
 returns : tie.Need-returns
 returns c =
-    let keyed = c .before .before in
+    let keyed = c .before .before .before in
     let given = keyed .before .before .before .args in
     check-keyed (given .key) (keyed .expand-key .result) (given .iv) (keyed .expand-key .ensures) (given .additional .now)
     (given .ciphertext .now) (given .tag) _ (c .check-under .ensures)
 
 pub check-spec : {M : Type 1} → statement M
-check-spec = tie.close (tie.spec (λ c κs. search needs) (λ c κs. search needs) returns)
+check-spec = tie.close (tie.spec (λ c κs. search needs) (λ c. search needs) (λ c κs. search needs) returns)

@@ -8,7 +8,7 @@ use Rattle.gcm.proofs.check_under.Tie as tie
 
 returns : tie.Need-returns
 returns c =
-    let given = c .before .before .before .before .args in
+    let given = c .before .before .before .before .before .args in
     sym
     (checkedUnder-too-long (given .expanded .now) (given .iv) (given .additional .now) (given .ciphertext .now) (given .tag)
     (sym (c .before .too-long .ensures) ∙ c .if1 .taken))
@@ -17,7 +17,7 @@ returns-2 : tie.Need-returns-2
 returns-2 c =
     let compared = c .before in
     let allowed = compared .before in
-    let given = allowed .before .before .before .before .args in
+    let given = allowed .before .before .before .before .before .args in
     sym
     (checkedUnder-right (given .expanded .now) (given .iv) (given .additional .now) (given .ciphertext .now) (given .tag)
     (sym (allowed .before .too-long .ensures) ∙ allowed .if1 .left) (rw (compared .tag-is .ensures) at (c .if2 .taken)))
@@ -26,7 +26,7 @@ returns-3 : tie.Need-returns-3
 returns-3 c =
     let compared = c .before in
     let allowed = compared .before in
-    let given = allowed .before .before .before .before .args in
+    let given = allowed .before .before .before .before .before .args in
     sym
     (checkedUnder-wrong (given .expanded .now) (given .iv) (given .additional .now) (given .ciphertext .now) (given .tag)
     (sym (allowed .before .too-long .ensures) ∙ allowed .if1 .left) (rw (compared .tag-is .ensures) at (c .if2 .left)))

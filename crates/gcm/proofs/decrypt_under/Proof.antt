@@ -9,7 +9,7 @@ use Rattle.gcm.proofs.decrypt_under.Tie as tie
 
 returns : tie.Need-returns
 returns c =
-    let given = c .before .before .before .before .args in
+    let given = c .before .before .before .before .before .args in
     sym
     (decryptedUnder-too-long (given .expanded .now) (given .iv) (given .ciphertext .now) (given .out .now)
     (sym (c .before .text-too-long .ensures) ∙ c .if1 .taken))
@@ -17,7 +17,7 @@ returns c =
 returns-2 : tie.Need-returns-2
 returns-2 c =
     let allowed = c .before in
-    let given = allowed .before .before .before .before .args in
+    let given = allowed .before .before .before .before .before .args in
     sym
     (decryptedUnder-no-room (given .expanded .now) (given .iv) (given .ciphertext .now) (given .out .now)
     (sym (allowed .before .text-too-long .ensures) ∙ allowed .if1 .left) (c .if2 .taken))
@@ -27,7 +27,7 @@ returns-3 c =
     let crypted = c .before .before in
     let room = crypted .before .before in
     let allowed = room .before in
-    let given = allowed .before .before .before .before .args in
+    let given = allowed .before .before .before .before .before .args in
     decrypt-made (given .expanded .now) (given .iv) (given .ciphertext .now) (given .out .now) _ (room .if2 .left) (crypted .crypt .ensures)
     (sym (allowed .before .text-too-long .ensures) ∙ allowed .if1 .left)
 

@@ -22,10 +22,10 @@ returns c =
 
 -- the comparison, under the key
 tagged : (c : tie.After-tag-is)
-    → let given = c .before .before .before .before .before .before .before .before .args in
+    → let given = c .before .before .before .before .before .before .before .before .before .args in
     c .tag-is .result ≡ same (tag (given .key) (given .iv) (given .additional .now) (given .ciphertext .now)) (given .tag)
 tagged c =
-    let keyed = c .before .before in
+    let keyed = c .before .before .before in
     let given = keyed .before .before .before .before .before .before .args in
     tag-keyed (given .key) (keyed .expand-key .result) (given .iv) (keyed .expand-key .ensures) (given .additional .now)
     (given .ciphertext .now) (given .tag) _ (c .tag-is .ensures)
@@ -33,7 +33,7 @@ tagged c =
 returns-2 : tie.Need-returns-2
 returns-2 c =
     let compared = c .before in
-    let keyed = compared .before .before in
+    let keyed = compared .before .before .before in
     let allowed = keyed .before in
     let given = allowed .before .before .before .before .before .args in
     sym
@@ -45,7 +45,7 @@ returns-3 : tie.Need-returns-3
 returns-3 c =
     let right = c .before in
     let compared = right .before in
-    let keyed = compared .before .before in
+    let keyed = compared .before .before .before in
     let allowed = keyed .before in
     let given = allowed .before .before .before .before .before .args in
     sym
@@ -57,10 +57,10 @@ returns-3 c =
 returns-4 : tie.Need-returns-4
 returns-4 c =
     let crypted = c .before .before in
-    let room = crypted .before .before .before in
+    let room = crypted .before .before .before .before in
     let right = room .before in
     let compared = right .before in
-    let keyed = compared .before .before in
+    let keyed = compared .before .before .before in
     let allowed = keyed .before in
     let given = allowed .before .before .before .before .before .args in
     open-made (keyed .expand-key .result) (given .iv) (given .ciphertext .now) (given .out .now) _ (room .if3 .left) (crypted .crypt .ensures)
@@ -70,5 +70,5 @@ returns-4 c =
 pub open-spec : {M : Type 1} → statement M
 open-spec =
     tie.close
-    (tie.spec (λ c κs. search needs) returns (λ c κs. search needs) (λ c κs. search needs) returns-2 returns-3
-    (λ c κs. search needs) (λ c. search needs) returns-4)
+    (tie.spec (λ c κs. search needs) returns (λ c κs. search needs) (λ c. search needs) (λ c κs. search needs) returns-2 returns-3
+    (λ c. search needs) (λ c κs. search needs) (λ c. search needs) returns-4)

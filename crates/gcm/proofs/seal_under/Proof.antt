@@ -10,7 +10,7 @@ use Rattle.gcm.proofs.seal_under.Tie as tie
 
 returns : tie.Need-returns
 returns c =
-    let given = c .before .before .before .before .before .args in
+    let given = c .before .before .before .before .before .before .args in
     sym
     (sealedUnder-too-long (given .expanded .now) (given .iv) (given .additional .now) (given .plain .now) (given .out .now)
     (sym (c .before .too-long .ensures) ∙ c .if1 .taken))
@@ -18,7 +18,7 @@ returns c =
 returns-2 : tie.Need-returns-2
 returns-2 c =
     let allowed = c .before in
-    let given = allowed .before .before .before .before .before .args in
+    let given = allowed .before .before .before .before .before .before .args in
     sym
     (sealedUnder-no-room (given .expanded .now) (given .iv) (given .additional .now) (given .plain .now) (given .out .now)
     (sym (allowed .before .too-long .ensures) ∙ allowed .if1 .left) (c .if2 .taken))
@@ -31,8 +31,8 @@ returns-3 c =
     let crypted = c .before .before .before .before in
     let room = crypted .before .before in
     let allowed = room .before in
-    let given = allowed .before .before .before .before .before .args in
-    seal-made (given .expanded .now) (given .iv) (given .plain .now) (given .out .now) (crypted .crypt .last .1 .1 .1 .0) (room .if2 .left)
+    let given = allowed .before .before .before .before .before .before .args in
+    seal-made (given .expanded .now) (given .iv) (given .plain .now) (given .out .now) (crypted .crypt .last .1 .1 .1 .1 .0) (room .if2 .left)
     (crypted .crypt .ensures) (given .additional .now) (c .make-tag .result) (sym (allowed .before .too-long .ensures) ∙ allowed .if1 .left)
     (c .make-tag .ensures)
 

@@ -11,7 +11,7 @@ returns c =
     let applied = c .before .before in
     let counted = applied .before .before in
     let started = counted .before in
-    let given = started .before .before .before .args in
+    let given = started .before .before .before .before .args in
     crypt-made (given .expanded .now) (given .iv) (given .src .now) (given .out .now) _ (value (started .first-counter .result))
     (value (counted .increment .result)) (started .first-counter .ensures) (counted .increment .ensures) (applied .apply .ensures)
 

@@ -15,7 +15,7 @@ returns c =
     let hashed = stored .before in
     let loaded = hashed .before in
     let enciphered = loaded .before .before in
-    let given = enciphered .before .before .before .args in
+    let given = enciphered .before .before .before .before .args in
     tag-made (given .expanded .now) (given .iv) (given .additional .now) (given .text .now) (enciphered .encipher .result)
     (stored .store .result) _ _ (value (loaded .load .result)) (value (hashed .hash .result)) (value (started .first-counter .result)) refl
     (enciphered .encipher .ensures) (loaded .load .ensures) (hashed .hash .ensures) (stored .store .ensures)

@@ -7,7 +7,7 @@ use Rattle.gcm.proofs.steps.tag_is.Tie as tie
 
 returns : tie.Need-returns
 returns c =
-    let given = c .before .before .before .before .args in
+    let given = c .before .before .before .before .before .args in
     tag-compared (given .expanded .now) (given .iv) (given .additional .now) (given .text .now) (c .before .make-tag .result) (given .given) _
     (c .before .make-tag .ensures) (c .same-block .ensures)
 

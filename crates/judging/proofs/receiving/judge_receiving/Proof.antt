@@ -31,7 +31,7 @@ use Rattle.judging.proofs.receiving.judge_receiving.Tie as tie
 -- ---- the places that are looked back to: from each test to the one before it
 
 abbrev start : tie.After-too-short → tie.Start
-start c = c .before .before .before .before .before .before
+start c = c .before .before .before .before .before .before .before
 
 abbrev at-length : tie.After-clear-length → tie.After-too-short
 at-length c = c .before .before
@@ -74,7 +74,7 @@ opened c =
     let l = ltb-false (length (frame d)) (kind d .header (frame d) + securityLength (held d) + 1 + 16 + kind d .trailer (frame d))
     (sym (shortness d) ∙ c .if1 .left)
     in
-    opens (s .args .opening) (s .args .frame .now) (s .pre .0) (s .pre .1) (omega (arith, l))
+    opens (s .args .opening) (s .args .frame .now) (s .pre .1 .0) (s .pre .1 .1) (omega (arith, l))
 
 -- ---- 6
 
@@ -141,6 +141,6 @@ returns-5 c =
 pub judge-receiving-spec : {M : Type 1} → statement M
 judge-receiving-spec =
     tie.close
-    (tie.spec (λ c κs. search needs) (λ c κs. search needs) returns (λ c κs. opened c) returns-2 (λ c κs. opened (
-    c .before .before)) returns-3 (λ c κs. opened (c .before .before .before .before)) (λ c κs. search needs)
+    (tie.spec (λ c κs. search needs) (λ c κs. search needs) returns (λ c κs. opened c) returns-2
+    (λ c κs. (start (c .before .before .before) .pre .0, opened (c .before .before))) returns-3 (λ c κs. opened (c .before .before .before .before)) (λ c κs. search needs)
     returns-4 (λ c κs. search needs) returns-5)

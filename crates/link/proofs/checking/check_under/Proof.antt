@@ -25,7 +25,7 @@ use Rattle.link.proofs.checking.check_under.Statement.{statement}
 use Rattle.link.proofs.checking.check_under.Tie as tie
 
 abbrev start : tie.After-of → tie.Start
-start c = c .before .before .before .before .before .before .before
+start c = c .before .before .before .before .before .before .before .before
 
 abbrev at-judge : tie.After-judge-receiving → tie.After-of
 at-judge c = c .before .before
@@ -45,7 +45,7 @@ opened c =
 
 as-opened : (c : tie.After-of) → let o = c .before .opening-of .result in let f = start c .args .frame .now in
     (obeys (framed (o .framing)) f true ≡ true) × (o ≡ openingOf (o .framing) (o .held) f)
-as-opened c = let s = start c in opened-so (s .args .framing) _ (s .args .frame .now) (c .before .opening-of .result) (opened c) (s .pre)
+as-opened c = let s = start c in opened-so (s .args .framing) _ (s .args .frame .now) (c .before .opening-of .result) (opened c) (s .pre .1)
 
 -- ---- the verdict
 
@@ -91,7 +91,7 @@ release-requires c κs =
     (hit .verdict2 .given .1) (d .judge-receiving .ensures)
     in
     let s = as-opened e in
-    (made .make-all .ensures .0, releasable o (g .frame .now) (s .0) (s .1) last (macRight (o .held) k (g .frame .now)) room (j .answer))
+    (start e .pre .0, (made .make-all .ensures .0, releasable o (g .frame .now) (s .0) (s .1) last (macRight (o .held) k (g .frame .now)) room (j .answer)))
 
 returns-2 : tie.Need-returns-2
 returns-2 c =
@@ -112,6 +112,5 @@ returns-2 c =
 pub check-under-spec : {M : Type 1} → statement M
 check-under-spec =
     tie.close
-    (tie.spec (λ c κs. search needs) (λ c κs. search needs) (λ c κs. search needs) (λ c κs. as-opened (c .before)
-    ) (λ c. search needs) (λ c κs. search needs) (λ c. search needs) (λ c κs. search needs) release-requires (λ
+    (tie.spec (λ c κs. search needs) (λ c κs. search needs) (λ c κs. search needs) (λ c κs. (start (c .before) .pre .0, as-opened (c .before))) (λ c. search needs) (λ c κs. search needs) (λ c. search needs) (λ c κs. search needs) release-requires (λ
     c. search needs) returns (λ c. search needs) (λ c. search needs) returns-2)

@@ -9,9 +9,9 @@ use Rattle.link.proofs.checking.release.Tie as tie
 returns : tie.Need-returns
 returns c =
     let wrote = c .before .before .before in
-    let s = wrote .before .before .before .before in
+    let s = wrote .before .before .before .before .before in
     let told = c .carried-out .ensures in
-    ((told .0 ∙ ap (granted (s .args .grant .size)) (s .pre .0), told .1), wrote .release-data .ensures)
+    ((told .0 ∙ ap (granted (s .args .grant .size)) (s .pre .1 .0), told .1), wrote .release-data .ensures)
 
 pub release-spec : {M : Type 1} → statement M
 release-spec =

@@ -21,7 +21,7 @@ use Rattle.link.proofs.securing.secure_under.Statement.{statement}
 use Rattle.link.proofs.securing.secure_under.Tie as tie
 
 abbrev start : tie.After-judge-sending → tie.Start
-start c = c .before .before .before .before .before .before .before .before
+start c = c .before .before .before .before .before .before .before .before .before
 
 abbrev reply : tie.After-judge-sending → Reply
 reply c =
@@ -61,8 +61,11 @@ hand-out-requires c κs =
     let g = start d .args in
     let a = associationOf (g .image .now) (g .numbers .last) (g .entry) in
     let j = subst (told d) (hit .verdict2 .given .1) (judged d) in (
-      made .make-all .ensures .0,
-      rw (under d) (securable (heldIn a) (a .number) (g .framing) (g .frame .now) (length (g .output .now)) (start d .pre) (j .answer)),
+      start d .pre .0,
+      (
+        made .make-all .ensures .0,
+        rw (under d) (securable (heldIn a) (a .number) (g .framing) (g .frame .now) (length (g .output .now)) (start d .pre .1) (j .answer)),
+      ),
     )
 
 returns-2 : tie.Need-returns-2
@@ -75,7 +78,7 @@ returns-2 c =
     let a = associationOf (g .image .now) (g .numbers .last) (g .entry) in
     let j = subst (told d) (hit .verdict2 .given .1) (judged d) in
     carried-grant (reply d) (g .image .now) (g .output .now) _ (g .numbers .last) (wrote .hand-out .result) _ _ j
-    (frame-size (heldIn a) (a .number) (g .framing) (g .frame .now) (length (g .output .now)) (start d .pre) (j .answer) (g .spi) (a .number + 1))
+    (frame-size (heldIn a) (a .number) (g .framing) (g .frame .now) (length (g .output .now)) (start d .pre .1) (j .answer) (g .spi) (a .number + 1))
     (made .make-all .ensures .1)
     (wrote .hand-out .ensures .1
     ∙ ap₂ (λ (h : Held) (n : ℕ). written (securedFrame h (framed (g .framing)) (g .spi) n (g .frame .now)) (g .output .now)) (under d) (j .number))

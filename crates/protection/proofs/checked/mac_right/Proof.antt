@@ -19,13 +19,13 @@ use Rattle.protection.proofs.checked.mac_right.Statement.{statement}
 use Rattle.protection.proofs.checked.mac_right.Tie as tie
 
 abbrev start : tie.After-mask → tie.Start
-start c = c .before .before .before .before .before
+start c = c .before .before .before .before .before .before
 
 abbrev opened : tie.After-cover → tie.After-mask
 opened c = c .before .before
 
 places : (c : tie.After-mask) → let g = start c .args in Placed (g .opening) (g .frame .now)
-places c = let s = start c in placed (s .args .opening) (s .args .frame .now) (s .pre)
+places c = let s = start c in placed (s .args .opening) (s .args .frame .now) (s .pre .1)
 
 within : (c : tie.After-cover) → let g = start (opened c) .args in Placed (g .opening) (g .frame .now)
 within c = places (opened c)
@@ -87,10 +87,13 @@ mac-is-right-requires c κs =
     let g = s .args in
     let p = within d in
     let t = covered-most (g .opening .held) (g .opening .framing) (g .frame .now) in (
-      key-expanded (g .opening) (g .frame .now) (s .pre),
-      rw (length-take, length-drop) (omega arith),
-      rw length-take (omega (arith, counted d)),
-      rw (length-take, length-drop) (omega arith),
+      s .pre .0,
+      (
+        key-expanded (g .opening) (g .frame .now) (s .pre .1),
+        rw (length-take, length-drop) (omega arith),
+        rw length-take (omega (arith, counted d)),
+        rw (length-take, length-drop) (omega arith),
+      ),
     )
 
 returns : tie.Need-returns
@@ -105,9 +108,9 @@ returns c =
     let security = securityOf k (securityLength (o .held)) f in
     c .mac-is-right .ensures
     ∙ ap₂ (λ (s t : List ℕ). same (macUnder (o .held) s (take (d .cover .result) (before d)) t) (mac .result))
-    (security-lent o f (s .pre)) (text-lent o f (s .pre))
+    (security-lent o f (s .pre .1)) (text-lent o f (s .pre .1))
     ∙ ap₂ (λ (b m : List ℕ). same (macUnder (o .held) security b (textIn (o .held) k f)) m) (covered d)
-    (mac .ensures ∙ mac-read o f (s .pre))
+    (mac .ensures ∙ mac-read o f (s .pre .1))
 
 pub mac-right-spec : {M : Type 1} → statement M
 mac-right-spec =

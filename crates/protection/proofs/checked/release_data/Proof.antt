@@ -14,21 +14,24 @@ use Rattle.protection.proofs.checked.release_data.Statement.{statement}
 use Rattle.protection.proofs.checked.release_data.Tie as tie
 
 abbrev start : tie.After-expanded2 → tie.Start
-start c = c .before .before .before .before .before
+start c = c .before .before .before .before .before .before
 
 places : (c : tie.After-expanded2) → let g = start c .args in Placed (g .opening) (g .frame .now)
-places c = let s = start c in placed (s .args .opening) (s .args .frame .now) (s .pre .0)
+places c = let s = start c in placed (s .args .opening) (s .args .frame .now) (s .pre .1 .0)
 
 release-requires : tie.Need-release-requires
 release-requires c κs =
     let h = c .before .before .before in
     let s = start h in
     let p = places h in
-    let l = text-long (s .args .opening) (s .args .frame .now) (s .pre .0) in (
-      key-expanded (s .args .opening) (s .args .frame .now) (s .pre .0),
-      rw (length-take, length-drop) (omega arith),
-      rw (length-take, length-drop) (omega arith),
-      rw (length-take, length-drop) (omega (arith, l, s .pre .1)),
+    let l = text-long (s .args .opening) (s .args .frame .now) (s .pre .1 .0) in (
+      s .pre .0,
+      (
+        key-expanded (s .args .opening) (s .args .frame .now) (s .pre .1 .0),
+        rw (length-take, length-drop) (omega arith),
+        rw (length-take, length-drop) (omega arith),
+        rw (length-take, length-drop) (omega (arith, l, s .pre .1 .1)),
+      ),
     )
 
 returns : tie.Need-returns
@@ -39,7 +42,7 @@ returns c =
     let h = g .opening .held in
     c .before .before .release .ensures
     ∙ ap₂ (λ (s t : List ℕ). written (serviceIn h .comingIn (h .key) (drop 2 s) t) (g .output .now))
-    (security-lent (g .opening) (g .frame .now) (s .pre .0)) (text-lent (g .opening) (g .frame .now) (s .pre .0))
+    (security-lent (g .opening) (g .frame .now) (s .pre .1 .0)) (text-lent (g .opening) (g .frame .now) (s .pre .1 .0))
 
 pub release-data-spec : {M : Type 1} → statement M
 release-data-spec =

@@ -30,7 +30,7 @@ use Rattle.protection.proofs.secured.write_secured.Tie as tie
 -- ---- the places that are looked back to, and what is written there
 
 abbrev entry : tie.After-clear-parts → tie.Start
-entry c = c .before .before .before .before .before
+entry c = c .before .before .before .before .before .before
 
 abbrev parts-at : tie.After-write-headers → tie.After-clear-parts
 parts-at c = c .before .before .before .before
@@ -45,7 +45,7 @@ abbrev headers-in : tie.After-write-headers → List ℕ
 headers-in c = c .write-headers .last .1 .1 .1 .1 .0
 
 abbrev text-in : tie.After-write-text → List ℕ
-text-in c = c .write-text .last .1 .1 .1 .1 .0
+text-in c = c .write-text .last .1 .1 .1 .1 .1 .0
 
 abbrev mac-in : tie.After-put-behind → List ℕ
 mac-in c = c .put-behind .last .1 .1 .0
@@ -163,9 +163,12 @@ write-text-requires c κs =
     let s = securing (parts-at h) in
     let m = measured (parts-at h) in
     let l = assembling.long-headers s (headers-in h) (headed h) in (
-      ap length (security-is (parts-at h)) ∙ length-security (s .held) (s .spi) (s .number),
-      rw (length-take, length-drop) (omega (arith, m)),
-      rw (assembling.header-place s (headers-in h) (headed h), length-take, length-drop) (omega (arith, m, l)),
+      entry (parts-at h) .pre .0,
+      (
+        ap length (security-is (parts-at h)) ∙ length-security (s .held) (s .spi) (s .number),
+        rw (length-take, length-drop) (omega (arith, m)),
+        rw (assembling.header-place s (headers-in h) (headed h), length-take, length-drop) (omega (arith, m, l)),
+      ),
     )
 
 abbrev text-lent : tie.After-clear-parts → List ℕ

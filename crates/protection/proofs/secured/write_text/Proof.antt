@@ -18,14 +18,14 @@ use Rattle.protection.proofs.secured.write_text.Statement.{statement}
 use Rattle.protection.proofs.secured.write_text.Tie as tie
 
 abbrev start : tie.After-cover → tie.Start
-start c = c .before .before .before .before .before .before .before
+start c = c .before .before .before .before .before .before .before .before
 
 abbrev before : tie.After-cover → List ℕ
 before c = c .cover .last .1 .1 .1 .1 .0
 
 cover-requires : tie.Need-cover-requires
 cover-requires c κs =
-    let g = c .before .before .before .before .before .before .args in
+    let g = c .before .before .before .before .before .before .before .args in
     let t = covered-most (g .held) (g .framing) (g .output .now) in
     (omega arith, omega arith)
 
@@ -64,10 +64,13 @@ protect-requires c κs =
     let g = start d .args in
     let t = covered-most (g .held) (g .framing) (g .output .now) in
     let n = counted d in (
-      search needs,
-      rw length-take (omega arith),
-      search needs,
-      rw (length-take, length-drop) (omega arith),
+      start d .pre .0,
+      (
+        search needs,
+        rw length-take (omega arith),
+        search needs,
+        rw (length-take, length-drop) (omega arith),
+      ),
     )
 
 returns : tie.Need-returns

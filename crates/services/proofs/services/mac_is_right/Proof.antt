@@ -9,11 +9,11 @@ use Rattle.services.proofs.services.mac_is_right.Statement.{statement}
 use Rattle.services.proofs.services.mac_is_right.Tie as tie
 
 -- the verdict of GCM says whether the MAC is right
-judged : (c : tie.After-check-under) → let g = c .before .before .before .before .before .before .before .args in
+judged : (c : tie.After-check-under) → let g = c .before .before .before .before .before .before .before .before .args in
     rightly (c .check-under .result)
     ≡ same (macUnder (g .held) (g .security .now) (g .before .now) (g .text .now)) (g .mac)
 judged c =
-    let g = c .before .before .before .before .before .before .before .args in
+    let g = c .before .before .before .before .before .before .before .before .args in
     let read = c .before .iv-in in
     ap rightly (c .check-under .ensures)
     ∙ sym
@@ -31,7 +31,7 @@ returns-3 c = ap rightly (sym (c .enum-told3 .given .1)) ∙ judged (c .before .
 
 returns-4 : tie.Need-returns-4
 returns-4 c =
-    let g = c .before .before .before .before .before .before .args in
+    let g = c .before .before .before .before .before .before .before .args in
     c .check-under2 .ensures
     ∙ comparing (g .held) (c .before .if1 .left) (g .expanded .now) (search needs) (g .security .now) (g .before .now) (g .text .now) (g .mac)
 

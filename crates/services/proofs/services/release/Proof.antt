@@ -15,7 +15,7 @@ returns : tie.Need-returns
 returns c =
     let read = c .before .before .before .before in
     let chosen = read .before in
-    let g = chosen .before .before .before .before .before .args in
+    let g = chosen .before .before .before .before .before .before .args in
     ap (λ (x : Call Answer). x .out)
     (c .before .before .decrypt-under .ensures
     ∙ releasing (g .held) (g .security .now) (chosen .if1 .taken) (search needs) (read .iv-in .result) (read .iv-in .ensures)
@@ -24,7 +24,7 @@ returns c =
 returns-2 : tie.Need-returns-2
 returns-2 c =
     let chosen = c .before .before .before .before in
-    let g = chosen .before .before .before .before .before .args in
+    let g = chosen .before .before .before .before .before .before .args in
     rw (signs (g .held .service) (chosen .if1 .left), clearUnder)
     (c .before .before .put .ensures ∙ with-room (g .text .now) (g .out .now) (search needs))
 

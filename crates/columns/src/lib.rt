@@ -1,0 +1,48 @@
+// FIPS 197, 3.5: a state as its four columns, each a word of 32 bits with row 0 highest.
+ghost use mathlib.Core.Path.{_≡_};
+ghost use mathlib.Core.List.{[], _∷_};
+ghost use Rattle.octets.specs.Lists.{octet};
+ghost use Rattle.columns.specs.Columns.{Column, stateFrom};
+
+// The word that has these octets.
+pub fn joined(a: u8, b: u8, c: u8, d: u8) -> u32
+    ensures { λ r. ⌜ Column r (λ i. octet (a ∷ b ∷ c ∷ d ∷ []) i) ⌝ }
+{
+    a as u32 * 0x1000000 + b as u32 * 0x10000 + c as u32 * 0x100 + d as u32
+}
+
+// A block's four words.
+pub fn words_of(block: [u8; 16]) -> [u32; 4]
+    ensures { λ r. ⌜ stateFrom r ≡ block ⌝ }
+{
+    [
+        joined(block[0], block[1], block[2], block[3]),
+        joined(block[4], block[5], block[6], block[7]),
+        joined(block[8], block[9], block[10], block[11]),
+        joined(block[12], block[13], block[14], block[15]),
+    ]
+}
+
+// The octets of a block's four words.
+pub fn octets_of(v: [u32; 4]) -> [u8; 16]
+    ensures { λ r. ⌜ r ≡ stateFrom v ⌝ }
+{
+    [
+        (v[0] / 0x1000000 % 256) as u8,
+        (v[0] / 0x10000 % 256) as u8,
+        (v[0] / 0x100 % 256) as u8,
+        (v[0] % 256) as u8,
+        (v[1] / 0x1000000 % 256) as u8,
+        (v[1] / 0x10000 % 256) as u8,
+        (v[1] / 0x100 % 256) as u8,
+        (v[1] % 256) as u8,
+        (v[2] / 0x1000000 % 256) as u8,
+        (v[2] / 0x10000 % 256) as u8,
+        (v[2] / 0x100 % 256) as u8,
+        (v[2] % 256) as u8,
+        (v[3] / 0x1000000 % 256) as u8,
+        (v[3] / 0x10000 % 256) as u8,
+        (v[3] / 0x100 % 256) as u8,
+        (v[3] % 256) as u8,
+    ]
+}

@@ -1,0 +1,18 @@
+-- `mixed_column` is right because a sum of the four tables' words is the product by a(x) of what the S-box makes of the four octets.
+-- Assumes nothing.
+use Rattle.word_cipher.proofs.Mixing.{mixes}
+use borrow.Author.Needs.{needs}
+use Rattle.word_cipher.proofs.rounds.mixed_column.Statement.{statement}
+use Rattle.word_cipher.proofs.rounds.mixed_column.Tie as tie
+
+returns : tie.Need-returns
+returns c =
+    let start = c .before .before .before .before in
+    mixes (start .pre) (start .args .a) (start .args .b) (start .args .c) (start .args .d)
+
+pub mixed-column-spec : {M : Type 1} → statement M
+mixed-column-spec =
+    tie.close
+    (tie.spec (λ c. search needs) (λ c. search needs) (λ c. search needs) (λ c. search needs) (λ c. search needs)
+    (λ c. search needs) (λ c. search needs) (λ c. search needs) (λ c. search needs) (λ c. search needs)
+    (λ c. search needs) (λ c. search needs) (λ c. search needs) (λ c. search needs) (λ c. search needs) returns)

@@ -1,0 +1,90 @@
+/* Calls whose keys and data are secret, for valgrind: each octet of a key and of a frame's data is marked as undefined, so that memcheck names
+ * every place at which the compiled module branches on something made of them, or reads memory where something made of them says. tests/secrets
+ * runs it and holds what is named to a list.
+ *
+ * What goes out is no secret: a secured frame is marked as defined before it is checked, but for its data and MAC, and so is a result. */
+#include "../include/xistalvo.h"
+#include "independent/reading.h"
+
+#include <stdio.h>
+#include <stdlib.h>
+#include <string.h>
+#include <valgrind/memcheck.h>
+
+enum { HEADER = 5, SPI = 9 };
+
+static uint8_t images[2][LARGEST_IMAGE], clear[LARGEST_FRAME], secured[LARGEST_FRAME], opened[LARGEST_FRAME];
+static uint32_t numbers[2][NUMBER_COUNT];
+static size_t image_length;
+static bool is_on_ground; /* which engine's calls are made */
+
+static void hide(void *from, size_t octets) { VALGRIND_MAKE_MEM_UNDEFINED(from, octets); }
+
+static void show(void *from, size_t octets) { VALGRIND_MAKE_MEM_DEFINED(from, octets); }
+
+static void need(uint64_t result, unsigned answer, const char *call)
+{
+    show(&result, sizeof result);
+    if (XISTALVO_ANSWER(result) != answer) {
+        fprintf(stderr, "secrets: a %s was answered by %u and not by %u\n", call, XISTALVO_ANSWER(result), answer);
+        exit(1);
+    }
+}
+
+/* Both ends with one association, whose key is hidden. */
+static void prepare(unsigned service)
+{
+    for (unsigned end = 0; end < 2; end++) {
+        struct table table = {.version = 1, .count = 1};
+        table.entries[0] = (struct association){.spi = SPI, .service = service, .kind = XISTALVO_TC, .direction = end + 1, .state = 2,
+                                                .spacecraft = 27, .channel = 5, .window = 100, .mark = 0};
+        memset(table.entries[0].key, 0xA5, KEY_LENGTH);
+        image_length = write_image(&table, images[end]);
+        hide(images[end] + XISTALVO_AT_BODY(1, 0) + XISTALVO_IN_KEY, KEY_LENGTH);
+        need(xistalvo_load(images[end], image_length, numbers[end], NUMBER_COUNT), XISTALVO_DONE, "load");
+    }
+}
+
+/* A check of the secured frame with a bit of its last octet changed, or none. */
+static void check(size_t data, size_t before, uint8_t change, unsigned answer)
+{
+    size_t length = before + data + MAC_LENGTH;
+    secured[length - 1] ^= change;
+    hide(secured + before, data + MAC_LENGTH);
+    need((is_on_ground ? xistalvo_ground_check : xistalvo_check)(images[1], image_length, numbers[1], NUMBER_COUNT, XISTALVO_TC,
+                                                                 XISTALVO_NO_CHECK_FIELD, secured, length, opened, sizeof opened),
+         answer, "check");
+    show(secured, length);
+    secured[length - 1] ^= change;
+}
+
+/* A frame of so much data, sent, checked with another MAC, and checked. */
+static void round_trip(unsigned service, size_t data)
+{
+    static const uint8_t header[HEADER] = {0x00, 27, 5 << 2, 0, 0};
+    size_t before = HEADER + (service == XISTALVO_AUTHENTICATED_ENCRYPTION ? 14 : 6);
+    memset(clear, 0xAA, HEADER + data);
+    memcpy(clear, header, HEADER);
+    write_tc_length(clear, HEADER + data);
+    hide(clear + HEADER, data);
+    need((is_on_ground ? xistalvo_ground_secure : xistalvo_secure)(images[0], image_length, numbers[0], NUMBER_COUNT, XISTALVO_TC,
+                                                                   XISTALVO_NO_CHECK_FIELD, SPI, clear, HEADER + data, secured, sizeof secured),
+         XISTALVO_DONE, "sending");
+    show(secured, before + data + MAC_LENGTH);
+    check(data, before, 1, XISTALVO_MAC_DIFFERS);
+    check(data, before, 0, XISTALVO_DONE);
+}
+
+int main(void)
+{
+    static const size_t sizes[] = {1, 16, 100, 986};
+    for (unsigned run = 0; run < 4; run++) {
+        unsigned service = run % 2 + 1;
+        is_on_ground = run / 2 == 1;
+        prepare(service);
+        for (size_t i = 0; i < sizeof sizes / sizeof sizes[0]; i++) {
+            round_trip(service, sizes[i]);
+        }
+    }
+    return 0;
+}
