@@ -331,6 +331,10 @@ answering =
             ten = refl;
             eleven = refl;
             twelve = refl;
+            thirteen = refl;
+            fourteen = refl;
+            fifteen = refl;
+            sixteen = refl;
           };
       loading = λ image numbers octets.
           exactly (loadRules image) (loaded image numbers)
