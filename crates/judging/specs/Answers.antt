@@ -1,4 +1,5 @@
--- Document 01, 'What comes back', and document 02, request 5: the answers and their numbers, and the first of several refusals that applies.
+-- Document 01, 'What comes back', and document 02, requests 4 and 5: the answers and their numbers, and the first of several refusals that
+-- applies.
 -- Assumes nothing.
 use Prim.Native.Nat.{ℕ}
 use mathlib.Core.Bool.{Bool, cond}
