@@ -482,7 +482,7 @@ def layers():
     p = Picture("layers", "The crates: each stands on those that its arrows point to")
     p.text(24, 26, p.title, 16, "start", "bold")
     p.note(46, "An arrow that follows from others is left out.", 24)
-    high, pitch, most = 48, 76, 10
+    high, pitch, most = 48, 76, 11
     boxes = {
         "octets": (24, 0, 686, FIXED, "lists of octets, numbers, copying, and their laws"),
         "substitution": (24, 1, 112, MAC, "S-box"),
@@ -504,9 +504,12 @@ def layers():
         "services": (24, 6, 320, DATA, "the two services, the security header"),
         "protection": (24, 7, 566, DATA, "the secured frame"),
         "judging": (24, 8, 566, DATA, "the tests of a call, in their order"),
-        "link": (24, 9, 566, DATA, "load, secure, check: judged, then carried out"),
-        "promises": (24, 10, 270, FREE, "theorems alone"),
-        "link_c": (320, 10, 270, FREE, "the C interface"),
+        "link": (24, 9, 280, DATA, "load, secure, check: carried out"),
+        "procedures": (320, 9, 270, DATA, "what a command may call"),
+        "commands": (205, 10, 385, DATA, "the command call: decided, then carried out"),
+        "promises": (24, 10, 165, FREE, "theorems alone"),
+        "command_promises": (24, 11, 280, FREE, "theorems on commands"),
+        "link_c": (320, 11, 270, FREE, "the C interface"),
         "listing_text": (606, 6, 104, FREE, "the lines"),
         "listing": (606, 7, 104, FREE, "the program"),
     }
@@ -519,7 +522,9 @@ def layers():
         "lines": (1, "lines of text for them"),
     }
     arrows = [
-        ("promises", "link", 159), ("link_c", "link", 455), ("listing", "listing_text", 658), ("link", "judging", 307), ("judging", "protection", 307),
+        ("command_promises", "promises", 106), ("command_promises", "commands", 254), ("link_c", "commands", 455), ("promises", "link", 106),
+        ("commands", "link", 254), ("commands", "procedures", 455), ("link", "judging", 164), ("procedures", "judging", 455),
+        ("listing", "listing_text", 658), ("judging", "protection", 307),
         ("protection", "services", 184), ("protection", "frame", 437), ("services", "cmac", 80), ("services", "gcm", 244),
         ("listing_text", "association", 658), ("association", "image", 616), ("image", "bodies", 616), ("bodies", "kinds", 537),
         ("bodies", "marks", 638), ("frame", "kinds", 437), ("kinds", "headers", 437), ("gcm", "gctr", 194), ("gcm", "ghash", 298),

@@ -4,8 +4,9 @@
 use Prim.Native.Nat.{ℕ}
 use mathlib.Core.Bool.{Bool, true, false, cond, not}
 use mathlib.Core.List.{List, [], _∷_, _++_}
-use lib.Dec.{ltb}
+use lib.Dec.{eqb, ltb}
 use lib.ListN.{length}
+use Rattle.marks.specs.declared.plans.Store.{Store}
 use Rattle.bodies.specs.Body.{stateOf}
 use Rattle.image.specs.Image.{versionOf, bodyOf, validImage}
 use Rattle.association.specs.Association.{indexOf}
@@ -84,6 +85,9 @@ commandReply image last command room =
 unfoldable pub commanded : List ℕ → List ℕ → List ℕ → List ℕ → Left
 commanded image last command output = left (commandReply image last command (length output)) image last output
 
--- cut after j stores, where the output has that much room
-unfoldable pub commandedCut : List ℕ → List ℕ → List ℕ → ℕ → ℕ → List ℕ
-commandedCut image last command room j = cut (commandReply image last command room) image j
+-- the stores that are made, a refusal makes none; and the image where it is cut after j of them
+abbrev pub madeBy : Reply → List Store
+madeBy q = cond (eqb (q .answer) 0) (q .stores) []
+
+unfoldable pub commandedCut : List ℕ → List ℕ → List ℕ → List ℕ → ℕ → List ℕ
+commandedCut image last command output j = cut (commandReply image last command (length output)) image j

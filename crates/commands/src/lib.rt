@@ -13,19 +13,20 @@ use judging::Verdict;
 use link::Outcome;
 use link::carried_out;
 use link::refused;
+use marks::make;
 use marks::make_all;
 use procedures::FRONT;
 use procedures::Procedure;
 use procedures::spi_named;
 use procedures::write_reply;
 ghost use mathlib.Core.Path.{_≡_};
-ghost use lib.ListN.{length, set};
+ghost use lib.ListN.{length, set, take};
 ghost use Rattle.octets.specs.Output.{fronted};
 ghost use Rattle.marks.specs.Stores.{storesIn};
 ghost use Rattle.judging.specs.Answers.{reported, granted};
-ghost use Rattle.link.specs.Calls.{leaving, left};
+ghost use Rattle.link.specs.Calls.{leaving, left, cut};
 ghost use Rattle.procedures.specs.Procedures.{procedureIs};
-ghost use Rattle.commands.specs.Commanding.{commanded};
+ghost use Rattle.commands.specs.Commanding.{madeBy, commandReply, commanded};
 ghost use Rattle.commands.specs.Steps.{replyUnder};
 
 // The reply goes out behind the stores: `made` is how many of them were made, and has to be all.
@@ -68,6 +69,58 @@ fn command_under(
             let plan = grant.plan;
             let made = make_all(image, plan);
             respond(grant, made, numbers, procedure, spi, state, last, output)
+        }
+    }
+}
+
+// The cut under the entry that it names: the first so many of its stores, and nothing else.
+fn cut_under(
+    image: &mut [u8],
+    numbers: Numbers,
+    procedure: Procedure,
+    entry: u8,
+    value: &[u8],
+    room: usize,
+    stores: u32,
+) -> u32
+    ensures { λ r. ⌜ r ≡ length (take stores (madeBy (replyUnder procedure (now (image .entry)) (numbers .last) entry (now (value .entry)) room))) ⌝ }
+    ensures { λ _. ⌜ now (image .exit) ≡ cut (replyUnder procedure (now (image .entry)) (numbers .last) entry (now (value .entry)) room) (now (image .entry)) stores ⌝ }
+{
+    let last = numbers.of(entry);
+    let verdict = decide(image, entry, last, procedure, value, room);
+    match verdict {
+        Verdict::Refused(_) => 0,
+        Verdict::Granted(grant) => {
+            let plan = grant.plan;
+            make(image, plan, stores)
+        }
+    }
+}
+
+// The cut: the first `stores` of the octet stores of a command that has that much room for its reply, and nothing else; how many were made.
+pub fn command_cut(
+    image: &mut [u8],
+    numbers: Numbers,
+    command: &[u8],
+    room: usize,
+    stores: u32,
+) -> u32
+    ensures { λ r. ⌜ r ≡ length (take stores (madeBy (commandReply (now (image .entry)) (numbers .last) (now (command .entry)) room))) ⌝ }
+    ensures { λ _. ⌜ now (image .exit) ≡ cut (commandReply (now (image .entry)) (numbers .last) (now (command .entry)) room) (now (image .entry)) stores ⌝ }
+{
+    let addressed = address_of(image, numbers, command);
+    match addressed {
+        Address::Refused(_) => 0,
+        Address::To(procedure, entry) => {
+            cut_under(
+                image,
+                numbers,
+                procedure,
+                entry,
+                &command[FRONT..],
+                room,
+                stores,
+            )
         }
     }
 }

@@ -127,7 +127,7 @@ module _ (image : List ℕ) (octets : Octets image) where
 
 -- ---- and one that obeys the rules is valid
 
-between : (low x high : ℕ) → (low ≤ x) × (x ≤ high) → (leb low x && leb x high) ≡ true
+pub between : (low x high : ℕ) → (low ≤ x) × (x ≤ high) → (leb low x && leb x high) ≡ true
 between low x high h = ap₂ _&&_ (le-leb low x (h .0)) (le-leb x high (h .1))
 
 implied : (a b : Bool) → (a ≡ true → b ≡ true) → (not a || b) ≡ true
@@ -251,7 +251,7 @@ module _ (image : List ℕ) (i : ℕ) where
             );
       }
 
-  serves-channel : (channel : ℕ) → ServesChannel image i channel → servesChannel (versionOf image) (bodyOf image i) channel ≡ true
+  pub serves-channel : (channel : ℕ) → ServesChannel image i channel → servesChannel (versionOf image) (bodyOf image i) channel ≡ true
   serves-channel channel s =
       let body = bodyOf image i in
       chosen (holdsSet (versionOf image) body) (inSet (channelOf body) channel) (eqb (channelOf body) channel)
