@@ -2,7 +2,7 @@
  * caller's frame that are no longer the pattern are those that the call took. Every call is done once over each of two patterns, so that an
  * octet that is written with the pattern itself does not count as unused. */
 #include "../include/xistalvo_stack.h"
-#include "../include/xistalvo.h"
+#include "../include/xistalvo_command.h"
 #include "independent/reading.h"
 
 #include <stdio.h>
@@ -40,6 +40,14 @@ static void call_check(void)
 static void call_raise(void)
 {
     result = xistalvo_raise(images[0], image_length, MOST_ENTRIES - 1, 64 * 1000, 1000) == 1000 - 15 ? 0 : UINT64_MAX;
+}
+
+/* Set number, which stores 16 octets. */
+static void call_command(void)
+{
+    static uint8_t command[XISTALVO_SET_NUMBER_LENGTH];
+    xistalvo_make_set_number(MOST_ENTRIES, numbers[0][MOST_ENTRIES - 1] + XISTALVO_LARGEST_STEP, command, sizeof command);
+    result = xistalvo_command(images[0], image_length, numbers[0], NUMBER_COUNT, command, sizeof command, opened, sizeof opened);
 }
 
 static void (*current_call)(void);
@@ -136,7 +144,7 @@ int main(void)
     static const struct {
         const char *name;
         void (*call)(void);
-    } calls[] = {{"load", call_load}, {"secure", call_secure}, {"check", call_check}, {"raise", call_raise}};
+    } calls[] = {{"load", call_load}, {"secure", call_secure}, {"check", call_check}, {"command", call_command}, {"raise", call_raise}};
     size_t most = 0;
     printf("octets of stack  service 1  service 2\n");
     for (size_t i = 0; i < sizeof calls / sizeof calls[0]; i++) {
