@@ -214,7 +214,7 @@ uint64_t xistalvo_command(uint8_t *image, size_t image_length, uint32_t *numbers
  * An image whose version is not 1 or 2, whose count is above 32 or whose length is not 2 + 56 k, and an entry that is not below the count
  * k: none is made and 0 returned. No other rule of the image is tested; the mark is where the layout puts it, in the last 4 octets of the body at
  * 2 + 4 k + 52 entry, whatever the contents say of its position.
- * Only those octets of the image are written. Securing and checking make all their stores before they write the output. */
+ * Only those octets of the image are written. Securing, checking and commands make all their stores before they write the output. */
 uint32_t xistalvo_raise(uint8_t *image, size_t image_length, uint8_t entry, uint32_t number, uint32_t stores);
 
 /* Says an answer in words. */
