@@ -425,7 +425,8 @@ int main(int argument_count, char **arguments)
     for (uint64_t i = 0; i < options.count; i++) {
         try_header(options, options.from + i);
     }
-    printf("commands: seed %" PRIu64 ", %zu cases, %" PRIu64 " calls: every tag and length, every step and window as the request says; the header lays out the same octets\n",
+    printf("commands: seed %" PRIu64 ", %zu cases, %" PRIu64
+           " calls: every tag and length, every step and window as the request says; the header lays out the same octets\n",
            options.seed, sizeof cases / sizeof cases[0], calls);
     return 0;
 }

@@ -391,7 +391,8 @@ static void try_way(enum way way, struct options options)
     if (totals.releases == 0 || totals.kills == 0 || (totals.stopped == 0 && options.count >= 200)) {
         both_fail("nothing was released, nothing killed, or no association left stopped");
     }
-    printf("%s: %" PRIu64 " kills in %" PRIu64 " runs, %" PRIu64 " frames sent, %" PRIu64 " released; %" PRIu64 " times an association was left stopped\n",
+    printf("%s: %" PRIu64 " kills in %" PRIu64 " runs, %" PRIu64 " frames sent, %" PRIu64 " released; %" PRIu64
+           " times an association was left stopped\n",
            way_names[way], totals.kills, 2 * options.count, totals.frames, totals.releases, totals.stopped);
 }
 

@@ -515,7 +515,8 @@ def commands():
         command_row(p, y, *row)
         y += 74
     p.note(y - 4, "A start names N channels, one or more. The other commands have no reply.", 24)
-    legend(p, y + 22, [(SORT, "which of several"), (LENGTH, "says how long"), (NUMBER, "for the number"), (NAMES, "names a channel"), (FIXED, "fixed")], 24)
+    meanings = [(SORT, "which of several"), (LENGTH, "says how long"), (NUMBER, "for the number"), (NAMES, "names a channel"), (FIXED, "fixed")]
+    legend(p, y + 22, meanings, 24)
     return p
 
 
@@ -523,9 +524,10 @@ def channel_names():
     p = Picture("channel-names", "A channel as a start names it: 32 bits, by the kind of the association")
     heading(p, p.title, "Zeros on the left, then the identifiers one behind the other. Widths are to scale.")
     bit = FULL / 32
+    telecommand = [("version", 2, FIXED, "00"), ("spacecraft", 10, NAMES, "10 bits"), ("virtual channel", 6, NAMES, "6 bits")]
     kinds = [
-        ("TC", [("version", 2, FIXED, "00"), ("spacecraft", 10, NAMES, "10 bits"), ("virtual channel", 6, NAMES, "6 bits")]),
-        ("segment", [("version", 2, FIXED, "00"), ("spacecraft", 10, NAMES, "10 bits"), ("virtual channel", 6, NAMES, "6 bits"), ("MAP", 6, NAMES, "6 bits")]),
+        ("TC", telecommand),
+        ("segment", telecommand + [("MAP", 6, NAMES, "6 bits")]),
         ("TM", [("version", 2, FIXED, "00"), ("spacecraft", 10, NAMES, "10 bits"), ("channel", 3, NAMES, "3 bits")]),
         ("AOS", [("version", 2, FIXED, "01"), ("spacecraft", 8, NAMES, "8 bits"), ("virtual channel", 6, NAMES, "6 bits")]),
     ]
@@ -550,9 +552,9 @@ def states():
     p = Picture("states", "The states of an association, and the commands that lead from one to the other")
     p.text(24, 26, p.title, 16, "start", "bold")
     y, high, wide = 86, 76, 190
-    places = {"unkeyed": (24, FREE, "state 0", "serves no frame"), "keyed": (384, FREE, "state 1", "serves no frame"), "operational": (744, DATA, "state 2", "serves frames")}
-    for name, (x, fill, number, what) in places.items():
-        p.box(x, y, wide, high, fill, [name, number, what], sizes=(15, 12.5))
+    places = {"unkeyed": (24, FREE, "serves no frame"), "keyed": (384, FREE, "serves no frame"), "operational": (744, DATA, "serves frames")}
+    for state, (name, (x, fill, what)) in enumerate(places.items()):
+        p.box(x, y, wide, high, fill, [name, f"state {state}", what], sizes=(15, 12.5))
     for left, right, forth, back in (("unkeyed", "keyed", "rekey", "expire"), ("keyed", "operational", "start", "stop")):
         x1, x2 = places[left][0] + wide, places[right][0]
         p.arrow([(x1, y + 24), (x2 - 1, y + 24)])
@@ -561,7 +563,7 @@ def states():
         p.text((x1 + x2) / 2, y + 71, back, 14, weight="bold")
     p.bracket(24, 574, y + high + 14, ["set window: where no frame is served"])
     p.bracket(24, 934, y + high + 58, ["set number, status, read number: in every state"])
-    p.note(y + high + 112, "In another state than the one that its arrow leaves, a command is answered by 15. Key, number and mark stay on every way.", 24)
+    p.note(y + high + 112, "From another state than the one that its arrow leaves, a command is answered by 15. Key and number stay.", 24)
     return p
 
 

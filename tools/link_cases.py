@@ -1094,8 +1094,9 @@ def command_forms(run):
             wrong += [tlv(tag, value[:-1]), tlv(tag), bytes([tag, 0, 0]) + value, tlv(tag, b"\x00\x0a" + value[2:] + b"\x00")]
         for octets in wrong:
             run.manage(octets, 13, room=0)
-    for octets in (b"", tlv(START, SPI_9), tlv(START, SPI_9 + bytes(3)), tlv(START, SPI_9 + bytes(5)), tlv(REKEY, SPI_9 + bytes(2)), tlv(SET_NUMBER, SPI_9 + bytes(4))):
-        run.manage(octets, 13)
+    run.manage(b"", 13)
+    for tag, size in ((START, 0), (START, 3), (START, 5), (REKEY, 2), (SET_NUMBER, 4)):
+        run.manage(tlv(tag, SPI_9 + bytes(size)), 13)
     run.case("13: every tag that is none, replies' among them, with an SPI and without")
     for tag in range(256):
         if tag not in VALUES and tag != START:

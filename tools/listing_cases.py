@@ -212,7 +212,8 @@ def broken():
     yield "kind 4, spacecraft 256", image([entry(kind=4, spacecraft=256)])
     for states in ((2, 1, 0), (0, 2, 1), (1, 0, 2)):
         for window in (0, 1025, 65535):
-            yield "window %s in all of states %d, %d and %d" % (format(window, ","), *states), image(three(*(dict(state=x, window=window) for x in states)))
+            name = "window %s in all of states %d, %d and %d" % (format(window, ","), *states)
+            yield name, image(three(*(dict(state=state, window=window) for state in states)))
     yield "mark 2^26", image([entry(code=gray(2**26))])
     yield "mark 2^32 - 1", image([entry(code=gray(2**32 - 1))])
     yield "a broken body behind 31 good ones", image(full[:31] + [entry(spi=32, window=0)])

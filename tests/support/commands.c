@@ -173,7 +173,8 @@ static uint32_t near_name(struct random *random, const struct association *assoc
 static void make_start(struct random *random, struct input *input, unsigned spi, const struct association *association)
 {
     static uint8_t value[SPI + NAME * MOST_NAMES];
-    size_t count = random_percent(random, 60) ? 1 : random_percent(random, 90) ? random_between(random, 2, 9) : random_between(random, 10, MOST_NAMES);
+    size_t many = random_percent(random, 90) ? random_between(random, 2, 9) : random_between(random, 10, MOST_NAMES);
+    size_t count = random_percent(random, 60) ? 1 : many;
     size_t wrong = random_percent(random, 35) ? RANDOM_OF(random, 0, (uint32_t)count - 1, random_below(random, (uint32_t)count)) : count;
     uint8_t *to = put(value, spi, SPI);
     for (size_t i = 0; i < count; i++) {
