@@ -56,10 +56,10 @@ static void command(const char *what, const uint8_t *octets, size_t length)
 {
     uint8_t frame[ROOM] = {0x00, SPACECRAFT, 5 << 2, (uint8_t)(4 + length), 0}, secured[ROOM], released[ROOM];
     memcpy(frame + 5, octets, length);
-    uint64_t result = xistalvo_secure(ground.image, IMAGE_LENGTH, ground.numbers, XISTALVO_NUMBERS, XISTALVO_TC, LINK, frame, 5 + length,
-                                      secured, sizeof secured);
-    result = xistalvo_check(space.image, IMAGE_LENGTH, space.numbers, XISTALVO_NUMBERS, XISTALVO_TC, secured, XISTALVO_LENGTH(result),
-                            released, sizeof released);
+    uint64_t result = xistalvo_secure(ground.image, IMAGE_LENGTH, ground.numbers, XISTALVO_NUMBERS, XISTALVO_TC,
+                                      XISTALVO_NO_CHECK_FIELD, LINK, frame, 5 + length, secured, sizeof secured);
+    result = xistalvo_check(space.image, IMAGE_LENGTH, space.numbers, XISTALVO_NUMBERS, XISTALVO_TC, XISTALVO_NO_CHECK_FIELD, secured,
+                            XISTALVO_LENGTH(result), released, sizeof released);
     if (XISTALVO_ANSWER(result) == XISTALVO_DONE) {
         carry_out(what, released, XISTALVO_LENGTH(result));
     }
@@ -69,13 +69,13 @@ static void command(const char *what, const uint8_t *octets, size_t length)
 static void send_picture(void)
 {
     uint8_t frame[] = {0x40 | SPACECRAFT >> 2, (uint8_t)((SPACECRAFT << 6 & 0xC0) | 12), 0, 0, 0, 0, 'p', 'i', 'c'}, secured[ROOM], released[ROOM];
-    uint64_t result = xistalvo_secure(space.image, IMAGE_LENGTH, space.numbers, XISTALVO_NUMBERS, XISTALVO_AOS, CAMERA, frame, sizeof frame,
-                                      secured, sizeof secured);
+    uint64_t result = xistalvo_secure(space.image, IMAGE_LENGTH, space.numbers, XISTALVO_NUMBERS, XISTALVO_AOS,
+                                      XISTALVO_NO_CHECK_FIELD, CAMERA, frame, sizeof frame, secured, sizeof secured);
     say("  a picture is sent", result);
     if (XISTALVO_ANSWER(result) == XISTALVO_DONE) {
         printf(", number %u;", (unsigned)space.numbers[CAMERA_ENTRY]);
-        say(" on the ground", xistalvo_check(ground.image, IMAGE_LENGTH, ground.numbers, XISTALVO_NUMBERS, XISTALVO_AOS, secured,
-                                             XISTALVO_LENGTH(result), released, sizeof released));
+        say(" on the ground", xistalvo_check(ground.image, IMAGE_LENGTH, ground.numbers, XISTALVO_NUMBERS, XISTALVO_AOS,
+                                             XISTALVO_NO_CHECK_FIELD, secured, XISTALVO_LENGTH(result), released, sizeof released));
     }
     putchar('\n');
 }
