@@ -31,8 +31,8 @@ extern "C" {
 
 /* The version of this interface. The second number rises where something is added, the first where a program has to change. */
 #define XISTALVO_VERSION_MAJOR 2
-#define XISTALVO_VERSION_MINOR 0
-#define XISTALVO_VERSION "2.0"
+#define XISTALVO_VERSION_MINOR 1
+#define XISTALVO_VERSION "2.1"
 
 /* The managed numbers of one image, in elements. */
 #define XISTALVO_NUMBERS 32
