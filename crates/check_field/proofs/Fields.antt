@@ -65,10 +65,23 @@ field-of-lt (suc n) s h =
     rw (field-step n s (h n))
     (shifts-lt 8 (checkFieldOf n s ⊕ octet s n * 256) (xor-lt 16 (checkFieldOf n s) (octet s n * 256) (field-of-lt n s h) (omega (arith, h n))))
 
--- ---- a loop that lets the octets enter one by one
+-- ---- loops that let the octets enter one by one, or four by four
 
 pub field-next : (i : ℕ) (s : List ℕ) (r r′ : ℕ) → octet s i < 256 → r ≡ checkFieldOf i s → r′ ≡ entered r (octet s i) → r′ ≡ checkFieldOf (i + 1) s
 field-next i s r r′ h e e′ = rw add-one (e′ ∙ ap (λ (x : ℕ). entered x (octet s i)) e ∙ sym (field-step i s h))
+
+pub field-next-four : (i : ℕ) (s : List ℕ) (r r′ : ℕ) → octet s i < 256 → octet s (i + 1) < 256 → octet s (i + 2) < 256 → octet s (i + 3) < 256
+    → r ≡ checkFieldOf i s
+    → r′ ≡ entered (entered (entered (entered r (octet s i)) (octet s (i + 1))) (octet s (i + 2))) (octet s (i + 3))
+    → r′ ≡ checkFieldOf (i + 4) s
+field-next-four i s r r′ a b c d e e′ =
+    let at-two : i + 1 + 1 ≡ i + 2 = omega arith in
+    let at-three : i + 2 + 1 ≡ i + 3 = omega arith in
+    let at-four : i + 3 + 1 ≡ i + 4 = omega arith in
+    let of : ℕ → ℕ = λ n. checkFieldOf n s in
+    let two = field-next (i + 1) s _ _ b (field-next i s r _ a e refl) refl ∙ ap of at-two in
+    let three = field-next (i + 2) s _ _ c two refl ∙ ap of at-three in
+    field-next (i + 3) s _ r′ d three e′ ∙ ap of at-four
 
 pub field-all : (i : ℕ) (s : List ℕ) (r : ℕ) → i ≡ length s → r ≡ checkFieldOf i s → r ≡ checkField s
 unfolding checkField

@@ -1,15 +1,15 @@
--- Shifts of the register: of a sum, within 16 bits, undone by no other, and eight of them at once.
+-- Shifts of the register: of a sum, within 16 bits, undone by no other, and eight or 32 of them at once.
 -- Assumes nothing.
 use mathlib.Core.Path.{_≡_, refl, sym, ap, ap₂, _∙_}
 use Prim.Native.Nat.{ℕ, zero, suc, _+_, _*_, _/_, _%_, _^_, _<_}
 use native.Mathlib.Omega.{arith}
-use native.Mathlib.Nat.{mod-lt, zero-add, mul-assoc, mul-one, pow-suc, div-add-mod', div-eq-of-lt}
+use native.Mathlib.Nat.{mod-lt, zero-add, suc-add, mul-assoc, mul-one, pow-suc, div-add-mod', div-eq-of-lt}
 use lib.Bits.{xor-self, xor-block, xor-comm, xor-lt, xor-shifted, xor-zero-r}
 use lib.Dec.{lit<}
 use Rattle.octets.specs.Xor.{_⊕_}
 use Rattle.octets.proofs.XorLaws.{xor-assoc, xor-none, xor-four}
 use Rattle.check_field.specs.Polynomials.{coefficient, G}
-use Rattle.check_field.specs.Register.{shift, shifts}
+use Rattle.check_field.specs.Register.{shift, shifts, entered}
 use Rattle.check_field.proofs.Sums.{scale-xor, xor-scaled}
 
 -- ---- of a sum
@@ -103,3 +103,38 @@ shifts-split r o h =
     ap (shifts 8) grouped
     ∙ shifts-xor 8 low ((high ⊕ o) * 256)
     ∙ ap (λ (x : ℕ). x ⊕ shifts 8 ((high ⊕ o) * 256)) (shifts-small 8 low (omega arith))
+
+-- ---- 32 at once: the low half, moved up, meets the second octet, and behind it each octet goes its own way
+
+shifts-shifts : (n m r : ℕ) → shifts n (shifts m r) ≡ shifts (n + m) r
+unfolding shifts
+shifts-shifts zero m r = sym (ap (λ (k : ℕ). shifts k r) (zero-add m))
+shifts-shifts (suc n) m r = ap shift (shifts-shifts n m r) ∙ sym (ap (λ (k : ℕ). shifts k r) (suc-add n m))
+
+-- an octet that enters a sum meets one part of it
+entered-xor : (x y o : ℕ) → entered (x ⊕ y) o ≡ shifts 8 x ⊕ entered y o
+entered-xor x y o = ap (shifts 8) (xor-assoc x y (o * 256)) ∙ shifts-xor 8 x (y ⊕ o * 256)
+
+shifts-both : (n m x y : ℕ) → shifts 8 (shifts n x ⊕ shifts m y) ≡ shifts (8 + n) x ⊕ shifts (8 + m) y
+shifts-both n m x y = shifts-xor 8 (shifts n x) (shifts m y) ∙ ap₂ _⊕_ (shifts-shifts 8 n x) (shifts-shifts 8 m y)
+
+pub four-entered : (r a b c d : ℕ) → r < 2 ^ 16
+    → entered (entered (entered (entered r a) b) c) d
+    ≡ (shifts 32 ((r / 256 ⊕ a) * 256) ⊕ shifts 24 ((r % 256 ⊕ b) * 256)) ⊕ (shifts 16 (c * 256) ⊕ shifts 8 (d * 256))
+four-entered r a b c d h =
+    let x : ℕ = (r / 256 ⊕ a) * 256 in
+    let y : ℕ = (r % 256 ⊕ b) * 256 in
+    let low : ℕ = r % 256 * 256 in
+    let one : entered r a ≡ shifts 8 x ⊕ low = shifts-split r a h ∙ xor-comm low (shifts 8 x) in
+    let two : entered (shifts 8 x ⊕ low) b ≡ shifts 16 x ⊕ shifts 8 y =
+    entered-xor (shifts 8 x) low b ∙ ap₂ _⊕_ (shifts-shifts 8 8 x) (ap (shifts 8) (sym (xor-scaled 8 (r % 256) b)))
+    in
+    let three : entered (shifts 16 x ⊕ shifts 8 y) c ≡ (shifts 24 x ⊕ shifts 16 y) ⊕ shifts 8 (c * 256) =
+    shifts-xor 8 (shifts 16 x ⊕ shifts 8 y) (c * 256) ∙ ap (λ (p : ℕ). p ⊕ shifts 8 (c * 256)) (shifts-both 16 8 x y)
+    in
+    ap (λ (p : ℕ). entered (entered (entered p b) c) d) one
+    ∙ ap (λ (p : ℕ). entered (entered p c) d) two
+    ∙ ap (λ (p : ℕ). entered p d) three
+    ∙ entered-xor (shifts 24 x ⊕ shifts 16 y) (shifts 8 (c * 256)) d
+    ∙ ap₂ _⊕_ (shifts-both 24 16 x y)
+    (shifts-xor 8 (shifts 8 (c * 256)) (d * 256) ∙ ap (λ (p : ℕ). p ⊕ shifts 8 (d * 256)) (shifts-shifts 8 8 (c * 256)))

@@ -1,6 +1,6 @@
 -- The shift register that makes the field, which the code follows. That it makes the field is proved: `checkFieldOf n s ≡ register n s`.
 -- Assumes nothing.
-use Prim.Native.Nat.{ℕ, zero, suc, _*_}
+use Prim.Native.Nat.{ℕ, zero, suc, _+_, _*_, _/_, _%_}
 use mathlib.Core.List.{List}
 use Rattle.octets.specs.Lists.{octet}
 use Rattle.octets.specs.Xor.{_⊕_}
@@ -25,6 +25,10 @@ unfoldable pub register : ℕ → List ℕ → ℕ
 register zero s = L
 register (suc n) s = entered (register n s) (octet s n)
 
--- entry k of the table: what eight shifts make of the octet k in the high half
-abbrev pub shiftedOctet : ℕ → ℕ
-shiftedOctet k = shifts 8 (k * 256)
+-- entry o of table k: what 8 (k + 1) shifts make of the octet o in the high half
+abbrev pub shiftedOctet : ℕ → ℕ → ℕ
+shiftedOctet k o = shifts (8 * (k + 1)) (o * 256)
+
+-- four tables of 256 entries, one behind the other
+abbrev pub tableEntry : ℕ → ℕ
+tableEntry i = shiftedOctet (i / 256) (i % 256)

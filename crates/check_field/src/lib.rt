@@ -2,7 +2,8 @@
 mod table;
 
 use crate::table::enter;
-use crate::table::shift_table;
+use crate::table::enter_four;
+use crate::table::shift_tables;
 ghost use mathlib.Core.Path.{_≡_};
 ghost use Rattle.octets.specs.Numbers.{bytes};
 ghost use Rattle.check_field.specs.CheckField.{checkField, rightField};
@@ -10,11 +11,22 @@ ghost use Rattle.check_field.specs.CheckField.{checkField, rightField};
 pub fn check_field(octets: &[u8]) -> u16
     ensures { λ r. ⌜ r ≡ checkField (now (octets .entry)) ⌝ }
 {
-    let table = shift_table();
+    let tables = shift_tables();
     let mut register: u16 = 0xffff;
     let mut i: usize = 0;
+    while 4 <= octets.len() - i {
+        register = enter_four(
+            &tables,
+            register,
+            octets[i],
+            octets[i + 1],
+            octets[i + 2],
+            octets[i + 3],
+        );
+        i += 4;
+    }
     while i < octets.len() {
-        register = enter(&table, register, octets[i]);
+        register = enter(&tables, register, octets[i]);
         i += 1;
     }
     register
