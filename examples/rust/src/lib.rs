@@ -35,6 +35,10 @@ pub enum Refusal {
     NumbersUsedUp = 10,
     SecuredTooLong = 11,
     CheckFieldDiffers = 12,
+    BadCommand = 13,
+    UnknownSpi = 14,
+    WrongState = 15,
+    ValueRefused = 16,
 }
 
 impl Refusal {
@@ -57,6 +61,10 @@ impl Refusal {
             Refusal::NumbersUsedUp => "numbers used up",
             Refusal::SecuredTooLong => "secured frame would be too long",
             Refusal::CheckFieldDiffers => "check field differs",
+            Refusal::BadCommand => "no such command, or of another length",
+            Refusal::UnknownSpi => "no association has the SPI",
+            Refusal::WrongState => "state does not allow the command",
+            Refusal::ValueRefused => "value not allowed",
         }
     }
 }
@@ -96,7 +104,27 @@ mod interface {
             output: *mut u8,
             output_length: usize,
         ) -> u64;
+        pub fn xistalvo_command(
+            image: *mut u8,
+            image_length: usize,
+            numbers: *mut u32,
+            numbers_length: usize,
+            command: *const u8,
+            command_length: usize,
+            output: *mut u8,
+            output_length: usize,
+        ) -> u64;
         pub fn xistalvo_raise(image: *mut u8, image_length: usize, entry: u8, number: u32, stores: u32) -> u32;
+        pub fn xistalvo_command_cut(
+            image: *mut u8,
+            image_length: usize,
+            numbers: *const u32,
+            numbers_length: usize,
+            command: *const u8,
+            command_length: usize,
+            output_length: usize,
+            stores: u32,
+        ) -> u32;
     }
 }
 
@@ -115,6 +143,10 @@ fn unpack(result: u64) -> Result<Done, Refusal> {
         10 => Refusal::NumbersUsedUp,
         11 => Refusal::SecuredTooLong,
         12 => Refusal::CheckFieldDiffers,
+        13 => Refusal::BadCommand,
+        14 => Refusal::UnknownSpi,
+        15 => Refusal::WrongState,
+        16 => Refusal::ValueRefused,
         other => unreachable!("the module has no answer {other}"),
     };
     Err(refusal)
@@ -183,8 +215,42 @@ pub fn check(
     })
 }
 
+/// Carries out a management command: tag, length of the value in 2 octets, value. A reply fills the start of the output.
+pub fn command(image: &mut [u8], numbers: &mut Numbers, command: &[u8], output: &mut [u8]) -> Result<Done, Refusal> {
+    // Safety: as for `secure`.
+    unpack(unsafe {
+        interface::xistalvo_command(
+            image.as_mut_ptr(),
+            image.len(),
+            numbers.0.as_mut_ptr(),
+            numbers.0.len(),
+            command.as_ptr(),
+            command.len(),
+            output.as_mut_ptr(),
+            output.len(),
+        )
+    })
+}
+
 /// The cut: makes the first stores of those that raise an entry's mark to number/64, and says how many it made.
 pub fn raise(image: &mut [u8], entry: u8, number: u32, stores: u32) -> u32 {
     // Safety: the range is lent with its length.
     unsafe { interface::xistalvo_raise(image.as_mut_ptr(), image.len(), entry, number, stores) }
+}
+
+/// The cut of a command with that much room for its reply: makes the first of its stores, and says how many it made.
+pub fn command_cut(image: &mut [u8], numbers: &Numbers, command: &[u8], room: usize, stores: u32) -> u32 {
+    // Safety: each range is lent with its length.
+    unsafe {
+        interface::xistalvo_command_cut(
+            image.as_mut_ptr(),
+            image.len(),
+            numbers.0.as_ptr(),
+            numbers.0.len(),
+            command.as_ptr(),
+            command.len(),
+            room,
+            stores,
+        )
+    }
 }
