@@ -56,14 +56,16 @@ remainder-shifts (suc n) k p =
     ∙ remainder-double (n + k) (p * 2 ^ n)
     ∙ ap shift (remainder-shifts n k p)
 
--- what has a degree below 16 is its own remainder
-pub remainder-small : (k p : ℕ) → p < 2 ^ 16 → remainder k p ≡ p
+-- of what has a degree below 16 + k a longer division takes nothing away before the last k steps
+pub remainder-longer : (j k p : ℕ) → p < 2 ^ (16 + k) → remainder (j + k) p ≡ remainder k p
 unfolding remainder
-remainder-small zero p h = refl
-remainder-small (suc k) p h =
-    let wide : 16 ≤ 16 + k = omega arith in
-    let none : p / 2 ^ (16 + k) ≡ 0 = div-eq-of-lt (lt-of-lt-of-le h (pow-mono wide)) in
-    ap (λ (q : ℕ). remainder k (p ⊕ q % 2 * (G * 2 ^ k))) none
-    ∙ ap (λ (q : ℕ). remainder k (p ⊕ q)) (zero-mul (G * 2 ^ k))
-    ∙ ap (remainder k) (xor-zero-r p)
-    ∙ remainder-small k p h
+remainder-longer zero k p h = ap (λ (n : ℕ). remainder n p) (zero-add k)
+remainder-longer (suc j) k p h =
+    let n : ℕ = j + k in
+    let wide : 16 + k ≤ 16 + n = omega arith in
+    let none : p / 2 ^ (16 + n) ≡ 0 = div-eq-of-lt (lt-of-lt-of-le h (pow-mono wide)) in
+    ap (λ (m : ℕ). remainder m p) (suc-add j k)
+    ∙ ap (λ (q : ℕ). remainder n (p ⊕ q % 2 * (G * 2 ^ n))) none
+    ∙ ap (λ (q : ℕ). remainder n (p ⊕ q)) (zero-mul (G * 2 ^ n))
+    ∙ ap (remainder n) (xor-zero-r p)
+    ∙ remainder-longer j k p h

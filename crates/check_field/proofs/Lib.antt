@@ -1,9 +1,13 @@
 pub mod Changes
 pub mod Division
+pub mod Entering
 pub mod Examples
 pub mod Fields
+pub mod Folding
 pub mod Laws
+pub mod Multiples
 pub mod Shifting
 pub mod Sums
 pub mod Syndrome
 pub mod Testing
+pub mod Words

@@ -3,7 +3,7 @@
 use mathlib.Core.Path.{_≡_, refl, sym, ap, ap₂, _∙_}
 use Prim.Native.Nat.{ℕ, zero, suc, _+_, _*_, _/_, _%_, _^_, _<_}
 use native.Mathlib.Omega.{arith}
-use native.Mathlib.Nat.{mod-lt, zero-add, mul-assoc, mul-one, pow-suc, div-add-mod', div-eq-of-lt}
+use native.Mathlib.Nat.{mod-lt, zero-add, suc-add, mul-assoc, mul-one, pow-suc, div-add-mod', div-eq-of-lt}
 use lib.Bits.{xor-self, xor-block, xor-comm, xor-lt, xor-shifted, xor-zero-r}
 use lib.Dec.{lit<}
 use Rattle.octets.specs.Xor.{_⊕_}
@@ -28,6 +28,11 @@ pub shifts-zero : (n : ℕ) → shifts n 0 ≡ 0
 unfolding shifts shift
 shifts-zero zero = refl
 shifts-zero (suc n) = ap shift (shifts-zero n)
+
+pub shifts-shifts : (n m r : ℕ) → shifts n (shifts m r) ≡ shifts (n + m) r
+unfolding shifts
+shifts-shifts zero m r = sym (ap (λ (k : ℕ). shifts k r) (zero-add m))
+shifts-shifts (suc n) m r = ap shift (shifts-shifts n m r) ∙ sym (ap (λ (k : ℕ). shifts k r) (suc-add n m))
 
 -- ---- within 16 bits
 

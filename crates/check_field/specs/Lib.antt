@@ -1,3 +1,4 @@
 pub mod CheckField
 pub mod Polynomials
 pub mod Register
+pub mod Words

@@ -1,8 +1,11 @@
 // The frame error control field of CCSDS 232.0 and CCSDS 132.0, here called check field: 16 bits behind a frame's other octets.
 mod table;
+mod wide;
 
 use crate::table::enter;
 use crate::table::shift_table;
+use crate::wide::enter_words;
+use crate::wide::narrowed;
 ghost use mathlib.Core.Path.{_≡_};
 ghost use Rattle.octets.specs.Numbers.{bytes};
 ghost use Rattle.check_field.specs.CheckField.{checkField, rightField};
@@ -11,8 +14,8 @@ pub fn check_field(octets: &[u8]) -> u16
     ensures { λ r. ⌜ r ≡ checkField (now (octets .entry)) ⌝ }
 {
     let table = shift_table();
-    let mut register: u16 = 0xffff;
-    let mut i: usize = 0;
+    let mut register = narrowed(&table, enter_words(octets));
+    let mut i: usize = octets.len() / 8 * 8;
     while i < octets.len() {
         register = enter(&table, register, octets[i]);
         i += 1;
