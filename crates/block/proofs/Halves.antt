@@ -4,7 +4,7 @@ use mathlib.Core.Path.{_≡_, sym, ap, ap₂, _∙_}
 use mathlib.Core.List.{List, [], _∷_, _++_}
 use Prim.Native.Nat.{ℕ, _+_, _*_, _/_, _%_, _^_, _≤_, _<_}
 use native.Mathlib.Omega.{arith}
-use native.Mathlib.Nat.{div-one, pow-suc, pow-le-pow-right}
+use native.Mathlib.Nat.{add-zero, div-one, pow-suc, pow-le-pow-right}
 use native.Mathlib.Numerals.{add-one}
 use lib.Bits.{xor-block}
 use lib.Dec.{lit≤}
@@ -30,6 +30,24 @@ octet-more k w o ho hw = rw (add-one, pow-suc) (omega arith)
 
 pub word-more : (k w o at : ℕ) (s : List ℕ) → w ≡ number k (drop at s) → o ≡ octet s (at + k) → w * 256 + o ≡ number (k + 1) (drop at s)
 word-more k w o at s ew eo = cc (number-step k (drop at s), getD-drop at s k 0)
+
+pub word-joined : (at : ℕ) (s : List ℕ)
+    → octet s at * 2 ^ 56 + octet s (at + 1) * 2 ^ 48 + octet s (at + 2) * 2 ^ 40 + octet s (at + 3) * 2 ^ 32 + octet s (at + 4) * 2 ^ 24
+    + octet s (at + 5) * 2 ^ 16 + octet s (at + 6) * 2 ^ 8 + octet s (at + 7)
+    ≡ number 8 (drop at s)
+unfolding number
+word-joined at s =
+    let first : octet (drop at s) 0 ≡ octet s at = getD-drop at s 0 0 ∙ ap (octet s) (add-zero at) in
+    omega (
+      arith,
+      getD-drop at s 1 0,
+      getD-drop at s 2 0,
+      getD-drop at s 3 0,
+      getD-drop at s 4 0,
+      getD-drop at s 5 0,
+      getD-drop at s 6 0,
+      getD-drop at s 7 0,
+    )
 
 pub number-halves : (at : ℕ) (s : List ℕ) → number 8 (drop at s) * 2 ^ 64 + number 8 (drop (at + 8) s) ≡ number 16 (drop at s)
 number-halves at s = sym (number-add 8 8 (drop at s) ∙ ap (λ (l : List ℕ). number 8 (drop at s) * 2 ^ 64 + number 8 l) (drop-drop 8 at s))

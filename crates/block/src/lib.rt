@@ -1,7 +1,8 @@
 // SP 800-38D, 6.1: a block of 128 bits in two halves of 64, and its way from octets and back.
 use octets::octet_behind;
 ghost use mathlib.Core.Path.{_≡_};
-ghost use lib.ListN.{drop};
+ghost use Prim.Native.Nat.{_+_, _*_, _^_, _≤_};
+ghost use lib.ListN.{length, drop};
 ghost use Rattle.octets.specs.Numbers.{number, bytes};
 ghost use Rattle.octets.specs.Xor.{_⊕_};
 ghost use Rattle.block.specs.Halves.{value};
@@ -34,12 +35,49 @@ fn word(s: &[u8], at: usize) -> u64
     w
 }
 
+// The number that eight octets make.
+fn joined(a: u8, b: u8, c: u8, d: u8, e: u8, f: u8, g: u8, h: u8) -> u64
+    ensures { λ r. ⌜ r ≡ a * 2 ^ 56 + b * 2 ^ 48 + c * 2 ^ 40 + d * 2 ^ 32 + e * 2 ^ 24 + f * 2 ^ 16 + g * 2 ^ 8 + h ⌝ }
+{
+    a as u64 * 0x0100_0000_0000_0000
+        + b as u64 * 0x0001_0000_0000_0000
+        + c as u64 * 0x0100_0000_0000
+        + d as u64 * 0x0001_0000_0000
+        + e as u64 * 0x0100_0000
+        + f as u64 * 0x0001_0000
+        + g as u64 * 0x0100
+        + h as u64
+}
+
+// The eight octets from `at` on, all of them inside: a whole block is read with no test for each octet.
+fn word_inside(s: &[u8], at: usize) -> u64
+    requires { ⌜ at + 8 ≤ length (now s) ⌝ }
+    ensures { λ r. ⌜ r ≡ number 8 (drop at (now (s .entry))) ⌝ }
+{
+    joined(
+        s[at],
+        s[at + 1],
+        s[at + 2],
+        s[at + 3],
+        s[at + 4],
+        s[at + 5],
+        s[at + 6],
+        s[at + 7],
+    )
+}
+
 // The sixteen octets from `at` on. Past the end they are 0: a last block is filled with zeros where it is read.
 pub fn load(s: &[u8], at: usize) -> Block
     ensures { λ r. ⌜ value r ≡ number 16 (drop at (now (s .entry))) ⌝ }
 {
     if s.len() <= at {
         return Block { hi: 0, lo: 0 };
+    }
+    if 16 <= s.len() - at {
+        return Block {
+            hi: word_inside(s, at),
+            lo: word_inside(s, at + 8),
+        };
     }
     Block {
         hi: word(s, at),

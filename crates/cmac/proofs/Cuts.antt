@@ -2,7 +2,7 @@
 -- Assumes nothing.
 use mathlib.Core.Path.{_≡_, _∙_, refl, sym, ap}
 use mathlib.Core.Bool.{Bool, true, false, cond}
-use mathlib.Core.List.{List}
+use mathlib.Core.List.{List, _++_}
 use Prim.Native.Nat.{ℕ, suc, _+_, _-_, _*_, _/_, _≤_, _<_}
 use native.Mathlib.Omega.{arith}
 use borrow.Author.Tests.{eqb-true, eqb-false, eq-eqb, ne-eqb}
@@ -12,7 +12,7 @@ use lib.Seq.{take-all}
 use Rattle.octets.specs.Lists.{octet, tab}
 use Rattle.octets.specs.Xor.{xors}
 use Rattle.octets.proofs.Rules.{length-tab, tab-ext}
-use Rattle.octets.proofs.Parts.{tab-part, set-tab}
+use Rattle.octets.proofs.Parts.{octet-past, tab-part, set-tab}
 use Rattle.cmac.specs.Subkeys.{zeros}
 use Rattle.cmac.specs.Mac.{blockCount, partOf, padded, lastBlock, block}
 
@@ -85,3 +85,9 @@ module _ (m : List ℕ) (i : ℕ) where
       short-block r few ends =
           let n : length (partOf m (i + 1)) ≡ 16 → ⊥ = λ e. omega (arith, long r few ends) in
           simp (is-last (omega arith), ne-eqb _ _ n) (ap (xors 16 second) (filled r few ends))
+
+-- a block that starts behind the head lies in the body
+pub in-body : (head body : List ℕ) (i at : ℕ) → length head ≤ 16 * i → at ≡ 16 * i - length head
+    → tab 16 (λ j. octet body (at + j)) ≡ tab 16 (λ j. octet (head ++ body) (16 * i + j))
+in-body head body i at l e =
+    tab-ext 16 (λ j h. ap (octet body) (omega arith) ∙ sym (octet-past head body (16 * i + j) (omega arith)))

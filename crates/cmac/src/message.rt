@@ -4,7 +4,7 @@ use crate::blocks::xor_blocks;
 use octets::octet_at;
 ghost use mathlib.Core.Path.{_≡_};
 ghost use mathlib.Core.List.{_++_};
-ghost use Prim.Native.Nat.{_+_, _*_, _^_, _<_};
+ghost use Prim.Native.Nat.{_+_, _*_, _^_, _≤_, _<_};
 ghost use lib.ListN.{length};
 ghost use Rattle.octets.specs.Lists.{octet, tab};
 ghost use Rattle.cmac.specs.Mac.{blockCount, block};
@@ -19,11 +19,34 @@ fn message_octet(head: &[u8], body: &[u8], i: usize) -> u8
     octet_at(body, i - head.len())
 }
 
-// Block i as it lies in the message, with zeros past the end. The bound keeps the place of its last octet within a usize.
+// The sixteen octets at a place, all of them inside.
+fn block_inside(s: &[u8], at: usize) -> [u8; 16]
+    requires { ⌜ at + 16 ≤ length (now s) ⌝ }
+    ensures { λ r. ⌜ r ≡ tab 16 (λ j. octet (now (s .entry)) (at + j)) ⌝ }
+{
+    let mut out = [0u8; 16];
+    let mut j: usize = 0;
+    while j < 16 {
+        out[j] = s[at + j];
+        j += 1;
+    }
+    out
+}
+
+// Block i as it lies in the message, with zeros past the end. One that lies whole in the body, as nearly all do, is read with no test for each
+// octet. The bound keeps the place of its last octet within a usize.
 fn gathered(head: &[u8], body: &[u8], i: usize) -> [u8; 16]
     requires { ⌜ i < 2 ^ 60 ⌝ }
     ensures { λ r. ⌜ r ≡ tab 16 (λ j. octet (now (head .entry) ++ now (body .entry)) (16 * i + j)) ⌝ }
 {
+    if head.len() <= 16 * i {
+        let at = 16 * i - head.len();
+        if at < body.len() {
+            if 16 <= body.len() - at {
+                return block_inside(body, at);
+            }
+        }
+    }
     let mut out = [0u8; 16];
     let mut j: usize = 0;
     while j < 16 {

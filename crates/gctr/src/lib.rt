@@ -4,7 +4,7 @@ use block::Block;
 use block::store;
 use engines::encrypt_block;
 ghost use mathlib.Core.Path.{_≡_};
-ghost use Prim.Native.Nat.{min, _-_, _≤_};
+ghost use Prim.Native.Nat.{min, _+_, _-_, _≤_};
 ghost use lib.ListN.{length, drop};
 ghost use lib.Seq.{paste};
 ghost use Rattle.octets.specs.Output.{fronted};
@@ -31,21 +31,31 @@ pub fn encipher(tables: &[u32], expanded: &[u8; 240], b: Block) -> [u8; 16]
     encrypt_block(tables, expanded, store(b))
 }
 
-// The octets of src from a place on, as many as a block has at most, each added to one of the stream, to the same places of out; how many.
-fn add_stream(stream: [u8; 16], src: &[u8], at: usize, out: &mut [u8]) -> usize
-    requires { ⌜ at ≤ length (now src) ⌝ }
-    requires { ⌜ length (now src) ≤ length (now out) ⌝ }
-    ensures { λ r. ⌜ (r ≡ min 16 (length (now (src .entry)) - at)) × (now (out .exit) ≡ paste (now (out .entry)) at (xors 16 (drop at (now (src .entry))) stream) r) ⌝ }
+// The n octets of src from a place on, each added to one of the stream, to the same places of out.
+fn add_octets(stream: [u8; 16], src: &[u8], at: usize, n: usize, out: &mut [u8])
+    requires { ⌜ (n ≤ 16) × (at + n ≤ length (now src)) × (length (now src) ≤ length (now out)) ⌝ }
+    ensures { λ _. ⌜ now (out .exit) ≡ paste (now (out .entry)) at (xors 16 (drop at (now (src .entry))) stream) n ⌝ }
 {
-    let mut n = src.len() - at;
-    if 16 < n {
-        n = 16;
-    }
     let mut j: usize = 0;
     while j < n {
         out[at + j] = src[at + j] ^ stream[j];
         j += 1;
     }
+}
+
+// The same for as many octets as a block has at most; how many. A whole block, as all but the last are, has a call of its own, whose count the
+// compiler knows.
+fn add_stream(stream: [u8; 16], src: &[u8], at: usize, out: &mut [u8]) -> usize
+    requires { ⌜ at ≤ length (now src) ⌝ }
+    requires { ⌜ length (now src) ≤ length (now out) ⌝ }
+    ensures { λ r. ⌜ (r ≡ min 16 (length (now (src .entry)) - at)) × (now (out .exit) ≡ paste (now (out .entry)) at (xors 16 (drop at (now (src .entry))) stream) r) ⌝ }
+{
+    let n = src.len() - at;
+    if 16 <= n {
+        add_octets(stream, src, at, 16, out);
+        return 16;
+    }
+    add_octets(stream, src, at, n, out);
     n
 }
 

@@ -4,15 +4,14 @@ use mathlib.Core.Path.{_≡_, refl, sym, ap, ap₂, _∙_}
 use mathlib.Core.List.{List}
 use Prim.Native.Nat.{ℕ, zero, suc, _+_, _-_, _*_, _/_, _%_, _^_, _≤_, _<_}
 use native.Mathlib.Omega.{arith}
-use native.Mathlib.Nat.{mod-lt, zero-mul, one-mul, zero-add, suc-add, add-zero, add-comm, mul-assoc, div-add-mod'}
+use native.Mathlib.Nat.{mod-lt, zero-mul, one-mul, zero-add, suc-add, add-comm, div-one}
 use borrow.Author.Count.{below-more}
-use lib.Bits.{xor-zero-r, xor-shifted, xor-block}
-use lib.Dec.{lit<, eqb, eqb→eq}
-use lib.ListN.{length, set, replicate, length-set}
+use lib.Bits.{xor-zero-r}
+use lib.Dec.{lit<}
+use lib.ListN.{length, set, length-set}
 use lib.Pow.{shr-shr, field, mod-mod-pow}
 use lib.Seq.{getD-set-other, getD-set-same}
 use Rattle.octets.specs.Xor.{_⊕_}
-use Rattle.octets.proofs.Tables.{every-at}
 use Rattle.octets.proofs.XorLaws.{xor-assoc, xor-half, xor-odd, xor-four, bit-scale}
 use Rattle.ghash.specs.Product.{R, nextV, productRounds}
 use Rattle.ghash.specs.Table.{nexts, entry}
@@ -60,7 +59,7 @@ horner k x v =
     ∙ ap (λ (n : ℕ). x / 2 ^ k % 2 * v ⊕ n) (ap (λ (n : ℕ). productRounds k x n (nextV v)) (sym next-zero) ∙ rounds-next k x 0 v)
 
 -- the same for j bits at a time
-horner-by : (j k x v : ℕ) → productRounds (j + k) x 0 v ≡ productRounds j (x / 2 ^ k) 0 v ⊕ nexts j (productRounds k x 0 v)
+pub horner-by : (j k x v : ℕ) → productRounds (j + k) x 0 v ≡ productRounds j (x / 2 ^ k) 0 v ⊕ nexts j (productRounds k x 0 v)
 unfolding nexts productRounds
 horner-by zero k x v = ap (λ (n : ℕ). productRounds n x 0 v) (zero-add k)
 horner-by (suc j) k x v =
@@ -82,62 +81,25 @@ bit-mod x m k h =
     ∙ ap (λ (e : ℕ). x / 2 ^ k % 2 ^ e % 2) e₂
     ∙ mod-mod-pow (x / 2 ^ k) (m - k - 1) 1
 
-rounds-low : (j m x z v : ℕ) → j ≤ m → productRounds j (x % 2 ^ m) z v ≡ productRounds j x z v
+pub rounds-low : (j m x z v : ℕ) → j ≤ m → productRounds j (x % 2 ^ m) z v ≡ productRounds j x z v
 unfolding productRounds
 rounds-low zero m x z v h = refl
 rounds-low (suc j) m x z v h =
     ap (λ (b : ℕ). productRounds j (x % 2 ^ m) (z ⊕ b * v) (nextV v)) (bit-mod x m j h)
     ∙ rounds-low j m x (z ⊕ x / 2 ^ j % 2 * v) (nextV v) (omega arith)
 
--- four next V's at once: what stays moves down four places, and the four bits that fall out come back
-next-even : (q : ℕ) → nextV (q * 2) ≡ q
+-- the next V of an even number
+pub next-even : (q : ℕ) → nextV (q * 2) ≡ q
 unfolding nextV
 next-even q =
     let e : q * 2 / 2 ≡ q = omega arith in
     let o : q * 2 % 2 ≡ 0 = omega arith in
     ap₂ (λ (a b : ℕ). a ⊕ b * R) e o ∙ xor-zero-r q
 
-nexts-shifted : (q : ℕ) → nexts 4 (q * 16) ≡ q
-unfolding nexts
-nexts-shifted q =
-    ap (λ (n : ℕ). nextV (nextV (nextV n))) (ap nextV (sym (mul-assoc q 8 2)) ∙ next-even (q * 8))
-    ∙ ap (λ (n : ℕ). nextV (nextV n)) (ap nextV (sym (mul-assoc q 4 2)) ∙ next-even (q * 4))
-    ∙ ap nextV (ap nextV (sym (mul-assoc q 2 2)) ∙ next-even (q * 2))
-    ∙ next-even q
-
-nexts-xor : (n a b : ℕ) → nexts n (a ⊕ b) ≡ nexts n a ⊕ nexts n b
+pub nexts-xor : (n a b : ℕ) → nexts n (a ⊕ b) ≡ nexts n a ⊕ nexts n b
 unfolding nexts
 nexts-xor zero a b = refl
 nexts-xor (suc n) a b = ap nextV (nexts-xor n a b) ∙ next-xor (nexts n a) (nexts n b)
-
-nexts-split : (z : ℕ) → nexts 4 z ≡ z / 16 ⊕ nexts 4 (z % 16)
-nexts-split z =
-    ap (nexts 4) (sym (xor-shifted (z / 16) 4 (z % 16) (mod-lt z (lit< tt)) ∙ div-add-mod' z 16))
-    ∙ nexts-xor 4 (z / 16 * 16) (z % 16)
-    ∙ ap (λ (n : ℕ). n ⊕ nexts 4 (z % 16)) (nexts-shifted (z / 16))
-
--- n times R's first octet, without carries, at bit 53 of the high half
-abbrev back : ℕ → ℕ
-back n = n * 0x1000_0000_0000_0000 ⊕ n * 0x0800_0000_0000_0000 ⊕ n * 0x0400_0000_0000_0000 ⊕ n * 0x0020_0000_0000_0000
-
-back-right : (n : ℕ) → n < 16 → nexts 4 n ≡ back n * 2 ^ 64
-unfolding nexts nextV
-back-right n h =
-    eqb→eq (nexts 4 n) (back n * 2 ^ 64) (every-at (λ k x. eqb (nexts 4 k) (back k * 2 ^ 64)) (replicate 16 0) tt n h)
-
--- as the code has it, in two halves
-pub nexts-halves : (hi lo : ℕ) → lo < 2 ^ 64
-    → (hi / 16 ⊕ back (lo % 16)) * 2 ^ 64 + (lo / 16 + hi % 16 * 0x1000_0000_0000_0000) ≡ nexts 4 (hi * 2 ^ 64 + lo)
-nexts-halves hi lo h =
-    let down : ℕ = lo / 16 + hi % 16 * 0x1000_0000_0000_0000 in
-    let l : down < 2 ^ 64 = omega arith in
-    let e : (hi * 2 ^ 64 + lo) / 16 ≡ hi / 16 * 2 ^ 64 + down = omega arith in
-    let m : (hi * 2 ^ 64 + lo) % 16 ≡ lo % 16 = omega arith in
-    sym
-    (nexts-split (hi * 2 ^ 64 + lo)
-    ∙ ap₂ _⊕_ e (ap (nexts 4) m ∙ back-right (lo % 16) (mod-lt lo (lit< tt)) ∙ sym (add-zero (back (lo % 16) * 2 ^ 64)))
-    ∙ xor-block 64 (hi / 16) (back (lo % 16)) down 0 l (lit< tt)
-    ∙ ap (λ (x : ℕ). (hi / 16 ⊕ back (lo % 16)) * 2 ^ 64 + x) (xor-zero-r down))
 
 -- four bits n more: their entry e, and four next V's of what the bits below gave
 pub rounds-four : (k x v n e s z z′ : ℕ) → z ≡ productRounds k x 0 v → n ≡ x / 2 ^ k % 16 → e ≡ productRounds 4 n 0 v → s ≡ nexts 4 z → z′ ≡ e ⊕ s
@@ -148,22 +110,15 @@ rounds-four k x v n e s z z′ ez en ee es ez′ =
     ∙ sym (horner-by 4 k x v)
     ∙ ap (λ (j : ℕ). productRounds j x 0 v) (add-comm 4 k)
 
--- one round, counted down: the bit, V or 0, the sum, the next V
-rounds-step : (k x z v : ℕ) → 0 < k → productRounds k x z v ≡ productRounds (k - 1) x (z ⊕ x / 2 ^ (k - 1) % 2 * v) (nextV v)
+-- the last four rounds, by V and the three that follow it
+pub rounds-added : (n h v₁ v₂ v₃ : ℕ) → v₁ ≡ nextV h → v₂ ≡ nextV v₁ → v₃ ≡ nextV v₂
+    → (n / 8 % 2 * h ⊕ n / 4 % 2 * v₁) ⊕ (n / 2 % 2 * v₂ ⊕ n % 2 * v₃) ≡ productRounds 4 n 0 h
 unfolding productRounds
-rounds-step zero x z v h = absurd (omega arith)
-rounds-step (suc k) x z v h =
-    let e : suc k - 1 ≡ k = omega arith in
-    rw e
-
-pub rounds-one : (k x z v t z′ v′ p : ℕ) → 0 < k → productRounds k x z v ≡ p → t ≡ x / 2 ^ (k - 1) % 2 * v → z′ ≡ z ⊕ t → v′ ≡ nextV v
-    → productRounds (k - 1) x z′ v′ ≡ p
-rounds-one k x z v t z′ v′ p h e et ez ev = cc (rounds-step k x z v h)
-
-pub rounds-none : (k x z v : ℕ) → k ≤ 0 → productRounds k x z v ≡ z
-unfolding productRounds
-rounds-none zero x z v h = refl
-rounds-none (suc k) x z v h = absurd (omega arith)
+rounds-added n h v₁ v₂ v₃ e₁ e₂ e₃ =
+    let f₂ : v₂ ≡ nextV (nextV h) = e₂ ∙ ap nextV e₁ in
+    let f₃ : v₃ ≡ nextV (nextV (nextV h)) = e₃ ∙ ap nextV f₂ in
+    sym (xor-assoc (n / 8 % 2 * h ⊕ n / 4 % 2 * v₁) (n / 2 % 2 * v₂) (n % 2 * v₃))
+    ∙ ap₂ _⊕_ (ap₂ (λ (a b : ℕ). n / 8 % 2 * h ⊕ n / 4 % 2 * a ⊕ n / 2 % 2 * b) e₁ f₂) (ap₂ (λ (m a : ℕ). m % 2 * a) (sym (div-one n)) f₃)
 
 -- one more entry of the table
 module _ (t : List ℕ) (n a b h : ℕ) (l : length t ≡ 32) (hn : n < 16) where

@@ -1,12 +1,11 @@
 -- What the product does to the halves of a block is what the definitions do to the number.
 -- Assumes nothing.
 use mathlib.Core.Path.{_≡_, sym, ap, ap₂, _∙_}
-use Prim.Native.Nat.{ℕ, zero, suc, _+_, _-_, _*_, _/_, _%_, _^_, _≤_, _<_}
+use Prim.Native.Nat.{ℕ, zero, suc, _+_, _*_, _/_, _%_, _^_, _<_}
 use native.Mathlib.Omega.{arith}
 use native.Mathlib.Nat.{mul-assoc, one-mul, zero-mul, add-zero}
 use lib.Bits.{xor-block, xor-zero-r}
 use lib.Dec.{lit<}
-use lib.Pow.{shr-shr, high, low, field, mod-mod-pow}
 use Rattle.octets.specs.Xor.{_⊕_}
 use Rattle.ghash.specs.Product.{R, nextV}
 
@@ -32,21 +31,3 @@ next-halves hi lo h =
     (ap₂ _⊕_ e₁ e₂
     ∙ xor-block 64 (hi / 2) back down 0 l (lit< tt)
     ∙ ap (λ (x : ℕ). (hi / 2 ⊕ back) * 2 ^ 64 + x) (xor-zero-r down))
-
--- four bits of the low half, and of the high
-pub bits-low : (hi lo k : ℕ) → lo < 2 ^ 64 → k ≤ 60 → lo / 2 ^ k % 16 ≡ (hi * 2 ^ 64 + lo) / 2 ^ k % 16
-bits-low hi lo k hl h =
-    let n : ℕ = hi * 2 ^ 64 + lo in
-    let e₁ : 64 ≡ 64 - k + k = omega arith in
-    let e₂ : 64 - k ≡ 60 - k + 4 = omega arith in
-    ap (λ (x : ℕ). x / 2 ^ k % 16) (sym (low hi 64 hl))
-    ∙ ap (λ (e : ℕ). n % 2 ^ e / 2 ^ k % 16) e₁
-    ∙ ap (λ (x : ℕ). x % 16) (field n (64 - k) k)
-    ∙ ap (λ (e : ℕ). n / 2 ^ k % 2 ^ e % 16) e₂
-    ∙ mod-mod-pow (n / 2 ^ k) (60 - k) 4
-
-pub bits-high : (hi lo k : ℕ) → lo < 2 ^ 64 → 64 ≤ k → hi / 2 ^ (k - 64) % 16 ≡ (hi * 2 ^ 64 + lo) / 2 ^ k % 16
-bits-high hi lo k hl h =
-    ap (λ (x : ℕ). x / 2 ^ (k - 64) % 16) (sym (high hi 64 hl))
-    ∙ ap (λ (x : ℕ). x % 16) (shr-shr (hi * 2 ^ 64 + lo) 64 (k - 64))
-    ∙ ap (λ (j : ℕ). (hi * 2 ^ 64 + lo) / 2 ^ j % 16) (omega arith)

@@ -4,9 +4,10 @@ use block::Block;
 use block::xor;
 ghost use mathlib.Core.Path.{_≡_};
 ghost use Prim.Native.Nat.{ℕ, _*_, _/_, _%_, _^_, _<_};
+ghost use Rattle.octets.specs.Xor.{_⊕_};
 ghost use Rattle.ghash.specs.Product.{nextV, productRounds, _•_};
 ghost use Rattle.block.specs.Halves.{value};
-ghost use Rattle.ghash.specs.Table.{nexts, IsTableOf};
+ghost use Rattle.ghash.specs.Table.{nexts, entry, IsTableOf};
 
 // v if the bit is 1, and 0 if it is 0, with no branch.
 fn times(bit: u64, v: Block) -> Block
@@ -28,29 +29,28 @@ fn next_v(v: Block) -> Block
     }
 }
 
-// The last four rounds of Algorithm 1, from Z = 0 and V = y.
-fn four_rounds(x: u64, y: Block) -> Block
-    ensures { λ r. ⌜ value r ≡ productRounds 4 x 0 (value y) ⌝ }
+// The last four rounds of Algorithm 1 for the bits of n, from Z = 0, with V and the three that follow it given.
+fn four_rounds(n: u64, v: Block, second: Block, third: Block, fourth: Block) -> Block
+    requires { ⌜ (value second ≡ nextV (value v)) × (value third ≡ nextV (value second)) × (value fourth ≡ nextV (value third)) ⌝ }
+    ensures { λ r. ⌜ value r ≡ productRounds 4 n 0 (value v) ⌝ }
 {
-    let mut z = Block { hi: 0, lo: 0 };
-    let mut v = y;
-    let mut k: u64 = 4;
-    while 0 < k {
-        k -= 1;
-        z = xor(z, times((x >> k) % 2, v));
-        v = next_v(v);
-    }
-    z
+    xor(
+        xor(times(n / 8 % 2, v), times(n / 4 % 2, second)),
+        xor(times(n / 2 % 2, third), times(n % 2, fourth)),
+    )
 }
 
 // Entry n stands in the words 2n and 2n + 1.
 pub(crate) fn table(h: Block) -> [u64; 32]
     ensures { λ r. ⌜ IsTableOf (value h) r ⌝ }
 {
+    let second = next_v(h);
+    let third = next_v(second);
+    let fourth = next_v(third);
     let mut t = [0u64; 32];
     let mut n: usize = 0;
     while n < 16 {
-        let entry = four_rounds(n as u64, h);
+        let entry = four_rounds(n as u64, h, second, third, fourth);
         t[n * 2] = entry.hi;
         t[n * 2 + 1] = entry.lo;
         n += 1;
@@ -58,48 +58,79 @@ pub(crate) fn table(h: Block) -> [u64; 32]
     t
 }
 
-// The next V four times over. The four bits that are shifted out come back as their products with R: its first octet 11100001 has bits at
-// the weights 2^7, 2^6, 2^5 and 2^0.
-fn four_next(z: Block) -> Block
-    ensures { λ r. ⌜ value r ≡ nexts 4 (value z) ⌝ }
+// A block moved down four places, with four other bits at its top.
+fn moved_down(top: u64, z: Block) -> Block
+    requires { ⌜ top < 16 ⌝ }
+    ensures { λ r. ⌜ value r ≡ value z / 16 ⊕ top * 2 ^ 124 ⌝ }
 {
-    let n = z.lo % 16;
-    let back = (n * 0x1000_0000_0000_0000)
-        ^ (n * 0x0800_0000_0000_0000)
-        ^ (n * 0x0400_0000_0000_0000)
-        ^ (n * 0x0020_0000_0000_0000);
     Block {
-        hi: (z.hi / 16) ^ back,
+        hi: z.hi / 16 + top * 0x1000_0000_0000_0000,
         lo: z.lo / 16 + z.hi % 16 * 0x1000_0000_0000_0000,
     }
 }
 
-// The four bits of the weights 2^k to 2^(k + 3).
-fn four_bits(x: Block, k: u64) -> usize
-    requires { ⌜ (k < 128) × (k % 4 ≡ 0) ⌝ }
-    ensures { λ r. ⌜ (r ≡ value x / 2 ^ k % 16) × (r < 16) ⌝ }
+// The next V 64 times over. The 64 bits that are shifted out come back as their products with R: its first octet 11100001 has bits at the
+// weights 2^7, 2^6, 2^5 and 2^0.
+fn half_next(z: Block) -> Block
+    ensures { λ r. ⌜ value r ≡ nexts 64 (value z) ⌝ }
 {
-    if k < 64 {
-        (x.lo >> k) as usize % 16
-    } else {
-        (x.hi >> (k - 64)) as usize % 16
+    let n = z.lo;
+    let back = (n % 2 * 0x8000_0000_0000_0000)
+        ^ (n % 4 * 0x4000_0000_0000_0000)
+        ^ (n % 128 * 0x0200_0000_0000_0000);
+    Block {
+        hi: n ^ (n / 2) ^ (n / 4) ^ (n / 128),
+        lo: z.hi ^ back,
     }
 }
 
-// The product of x with the block that t is the table of.
+// The four bits of a half at the weights 2^k to 2^(k + 3).
+fn four_bits(half: u64, k: u64) -> usize
+    requires { ⌜ k < 64 ⌝ }
+    ensures { λ r. ⌜ (r ≡ half / 2 ^ k % 16) × (r < 16) ⌝ }
+{
+    (half >> k) as usize % 16
+}
+
+// Entry n.
+fn entry_at(t: &[u64; 32], n: usize) -> Block
+    requires { ⌜ n < 16 ⌝ }
+    ensures { λ r. ⌜ value r ≡ entry (now (t .entry)) n ⌝ }
+{
+    Block {
+        hi: t[n * 2],
+        lo: t[n * 2 + 1],
+    }
+}
+
+// The block whose high half this is, with a low one of zeros.
+fn raised(half: u64) -> Block
+    ensures { λ r. ⌜ (value r ≡ half * 2 ^ 64) × (half < 2 ^ 64) ⌝ }
+{
+    Block { hi: half, lo: 0 }
+}
+
+// The product of x with the block that t is the table of. Both halves of x go at once, and nothing is reduced before the end: what is shifted
+// out of `high` is kept in `low`.
 pub(crate) fn multiply(x: Block, t: &[u64; 32]) -> Block
     ensures { λ r. ⌜ ((h : ℕ) → IsTableOf h (now (t .entry)) → value r ≡ value x • h) ⌝ }
 {
-    let mut z = Block { hi: 0, lo: 0 };
+    let mut high = Block { hi: 0, lo: 0 };
+    let mut low = Block { hi: 0, lo: 0 };
     let mut k: u64 = 0;
-    while k < 128 {
-        let n = four_bits(x, k);
-        let entry = Block {
-            hi: t[n * 2],
-            lo: t[n * 2 + 1],
-        };
-        z = xor(entry, four_next(z));
+    while k < 64 {
+        let first = entry_at(t, four_bits(x.hi, k));
+        let second = entry_at(t, four_bits(x.lo, k));
+        low = xor(moved_down(high.lo % 16, low), raised(second.lo));
+        let added = xor(first, moved_down(0, high));
+        high = xor(
+            added,
+            Block {
+                hi: 0,
+                lo: second.hi,
+            },
+        );
         k += 4;
     }
-    z
+    xor(high, half_next(half_next(low)))
 }

@@ -8,26 +8,48 @@ use key_schedule::expand_key;
 use rounds::add_key;
 use rounds::mixed;
 use rounds::rows_shifted;
-use substitution::substitution_table;
 use word_tables::word_tables;
 ghost use mathlib.Core.Path.{_≡_};
 ghost use Rattle.word_tables.specs.Tables.{IsTables};
 ghost use Rattle.cipher.specs.Cipher.{cipher, aes256};
+ghost use Rattle.word_cipher.specs.Apart.{AreTables};
 
-// The block under an expanded key (5.1). The last round, which has no MixColumns, goes by the substitution table.
+// The block under an expanded key (5.1), with each table by itself: a lookup then has no place of a table to add, which is an instruction on
+// processors other than x86-64. The last round has no MixColumns.
+fn encrypt_apart(
+    first: &[u32],
+    second: &[u32],
+    third: &[u32],
+    fourth: &[u32],
+    expanded: &[u8; 240],
+    block: [u8; 16],
+) -> [u8; 16]
+    requires { ⌜ AreTables (now first) (now second) (now third) (now fourth) ⌝ }
+    ensures { λ r. ⌜ r ≡ cipher (now (expanded .entry)) block ⌝ }
+{
+    let mut s = add_key(expanded, 0, words_of(block));
+    let mut n: usize = 0;
+    while n < 13 {
+        let next = add_key(expanded, n + 1, mixed(first, second, third, fourth, s));
+        s = next;
+        n += 1;
+    }
+    octets_of(add_key(expanded, 14, rows_shifted(first, second, third, s)))
+}
+
+// The same, with the tables one behind the other.
 pub fn encrypt_block(tables: &[u32], expanded: &[u8; 240], block: [u8; 16]) -> [u8; 16]
     requires { ⌜ IsTables (now tables) ⌝ }
     ensures { λ r. ⌜ r ≡ cipher (now (expanded .entry)) block ⌝ }
 {
-    let table = substitution_table();
-    let mut s = add_key(expanded, 0, words_of(block));
-    let mut n: usize = 0;
-    while n < 13 {
-        let next = add_key(expanded, n + 1, mixed(tables, s));
-        s = next;
-        n += 1;
-    }
-    octets_of(add_key(expanded, 14, rows_shifted(&table, s)))
+    encrypt_apart(
+        &tables[0..256],
+        &tables[256..512],
+        &tables[512..768],
+        &tables[768..1024],
+        expanded,
+        block,
+    )
 }
 
 // The block under a key.

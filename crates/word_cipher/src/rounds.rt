@@ -1,68 +1,90 @@
 // The steps of a round (5.1) on the four columns of a state. ShiftRows (5.1.2) takes row r of a column from the column r places further to the
 // right, so that a column of what follows it is made of four: row 0 of a, row 1 of b, row 2 of c and row 3 of d.
 use columns::joined;
-use substitution::substituted;
 ghost use mathlib.Core.Path.{_≡_};
 ghost use Prim.Native.Nat.{_<_};
-ghost use Rattle.octets.specs.Lists.{octet, IsTable};
+ghost use Rattle.octets.specs.Lists.{octet};
 ghost use Rattle.substitution.specs.Field.{_⊗_};
-ghost use Rattle.substitution.specs.Sbox.{sbox};
-ghost use Rattle.word_tables.specs.Tables.{IsTables};
 ghost use Rattle.cipher.specs.AddRoundKey.{addRoundKey};
 ghost use Rattle.cipher.specs.MixColumns.{mixer, mixColumns};
 ghost use Rattle.cipher.specs.ShiftRows.{shiftRows};
 ghost use Rattle.cipher.specs.State.{at};
 ghost use Rattle.cipher.specs.SubBytes.{subBytes};
 ghost use Rattle.columns.specs.Columns.{Column, stateFrom};
+ghost use Rattle.word_cipher.specs.Apart.{IsTable, AreTables};
 ghost use Rattle.word_cipher.specs.Diagonal.{diagonal};
 
 // SubBytes and MixColumns: the product by a(x) of a column is the sum of those of its rows, each of which is in a table.
-fn mixed_column(tables: &[u32], a: u32, b: u32, c: u32, d: u32) -> u32
-    requires { ⌜ IsTables (now tables) ⌝ }
+fn mixed_column(
+    first: &[u32],
+    second: &[u32],
+    third: &[u32],
+    fourth: &[u32],
+    a: u32,
+    b: u32,
+    c: u32,
+    d: u32,
+) -> u32
+    requires { ⌜ AreTables (now first) (now second) (now third) (now fourth) ⌝ }
     ensures { λ r. ⌜ Column r (λ i. octet (mixer ⊗ diagonal a b c d) i) ⌝ }
 {
-    tables[(a / 0x1000000 % 256) as usize]
-        ^ tables[256 + (b / 0x10000 % 256) as usize]
-        ^ tables[512 + (c / 0x100 % 256) as usize]
-        ^ tables[768 + (d % 256) as usize]
+    first[(a / 0x1000000 % 256) as usize]
+        ^ second[(b / 0x10000 % 256) as usize]
+        ^ third[(c / 0x100 % 256) as usize]
+        ^ fourth[(d % 256) as usize]
 }
 
 // SubBytes, ShiftRows and MixColumns.
-pub(crate) fn mixed(tables: &[u32], v: [u32; 4]) -> [u32; 4]
-    requires { ⌜ IsTables (now tables) ⌝ }
+pub(crate) fn mixed(
+    first: &[u32],
+    second: &[u32],
+    third: &[u32],
+    fourth: &[u32],
+    v: [u32; 4],
+) -> [u32; 4]
+    requires { ⌜ AreTables (now first) (now second) (now third) (now fourth) ⌝ }
     ensures { λ r. ⌜ stateFrom r ≡ mixColumns (shiftRows (subBytes (stateFrom v))) ⌝ }
 {
     [
-        mixed_column(tables, v[0], v[1], v[2], v[3]),
-        mixed_column(tables, v[1], v[2], v[3], v[0]),
-        mixed_column(tables, v[2], v[3], v[0], v[1]),
-        mixed_column(tables, v[3], v[0], v[1], v[2]),
+        mixed_column(first, second, third, fourth, v[0], v[1], v[2], v[3]),
+        mixed_column(first, second, third, fourth, v[1], v[2], v[3], v[0]),
+        mixed_column(first, second, third, fourth, v[2], v[3], v[0], v[1]),
+        mixed_column(first, second, third, fourth, v[3], v[0], v[1], v[2]),
     ]
 }
 
-// SubBytes alone.
-fn substituted_column(table: &[u8; 256], a: u32, b: u32, c: u32, d: u32) -> u32
-    requires { ⌜ IsTable 256 sbox (now table) ⌝ }
+// SubBytes alone. a(x) has the coefficient {01} twice, so that two octets of each word are the S-box itself: rows 1 and 2 of the first table's,
+// rows 2 and 3 of the second's, rows 3 and 0 of the third's. Each row takes a table that has it in its place.
+fn substituted_column(
+    first: &[u32],
+    second: &[u32],
+    third: &[u32],
+    a: u32,
+    b: u32,
+    c: u32,
+    d: u32,
+) -> u32
+    requires { ⌜ IsTable 0 (now first) × IsTable 1 (now second) × IsTable 2 (now third) ⌝ }
     ensures { λ r. ⌜ Column r (λ i. octet (diagonal a b c d) i) ⌝ }
 {
     joined(
-        substituted(table, (a / 0x1000000 % 256) as u8),
-        substituted(table, (b / 0x10000 % 256) as u8),
-        substituted(table, (c / 0x100 % 256) as u8),
-        substituted(table, (d % 256) as u8),
+        (third[(a / 0x1000000 % 256) as usize] / 0x1000000 % 256) as u8,
+        (first[(b / 0x10000 % 256) as usize] / 0x10000 % 256) as u8,
+        (first[(c / 0x100 % 256) as usize] / 0x100 % 256) as u8,
+        (second[(d % 256) as usize] % 256) as u8,
     )
 }
 
 // SubBytes and ShiftRows.
-pub(crate) fn rows_shifted(table: &[u8; 256], v: [u32; 4]) -> [u32; 4]
-    requires { ⌜ IsTable 256 sbox (now table) ⌝ }
+pub(crate) fn rows_shifted(first: &[u32], second: &[u32], third: &[u32], v: [u32; 4]) -> [u32; 4]
+    requires { ⌜ IsTable 0 (now first) × IsTable 1 (now second) × IsTable 2 (now third) ⌝ }
     ensures { λ r. ⌜ stateFrom r ≡ shiftRows (subBytes (stateFrom v)) ⌝ }
 {
     [
-        substituted_column(table, v[0], v[1], v[2], v[3]),
-        substituted_column(table, v[1], v[2], v[3], v[0]),
-        substituted_column(table, v[2], v[3], v[0], v[1]),
-        substituted_column(table, v[3], v[0], v[1], v[2]),
+        substituted_column(first, second, third, v[0], v[1], v[2], v[3]),
+        substituted_column(first, second, third, v[1], v[2], v[3], v[0]),
+        substituted_column(first, second, third, v[2], v[3], v[0], v[1]),
+        substituted_column(first, second, third, v[3], v[0], v[1], v[2]),
     ]
 }
 

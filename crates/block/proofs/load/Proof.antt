@@ -13,8 +13,16 @@ returns c = sym (numberAt-past (c .before .before .args .at) 16 (c .before .befo
 
 returns-2 : tie.Need-returns-2
 returns-2 c =
-    let given = c .before .before .before .before .args in
+    let given = c .before .before .before .before .before .args in
+    ap₂ (λ (a b : ℕ). a * 2 ^ 64 + b) (c .before .word-inside .ensures) (c .word-inside2 .ensures) ∙ number-halves (given .at) (given .s .now)
+
+returns-3 : tie.Need-returns-3
+returns-3 c =
+    let given = c .before .before .before .before .before .args in
     ap₂ (λ (a b : ℕ). a * 2 ^ 64 + b) (c .before .word .ensures) (c .word2 .ensures) ∙ number-halves (given .at) (given .s .now)
 
 pub load-spec : {M : Type 1} → statement M
-load-spec = tie.close (tie.spec returns (λ c κs. search needs) (λ c. search needs) (λ c κs. search needs) returns-2)
+load-spec =
+    tie.close
+    (tie.spec returns (λ c. search needs) (λ c κs. search needs) (λ c. search needs) (λ c κs. search needs) returns-2
+    (λ c κs. search needs) (λ c. search needs) (λ c κs. search needs) returns-3)

@@ -1,39 +1,25 @@
--- `encrypt_block` is right because after n turns the columns are those of the state that `rounds` has after n rounds.
+-- `encrypt_block` is right because each quarter of the words is one of the four tables.
 -- Assumes nothing.
-use mathlib.Core.Path.{_≡_, refl}
-use Prim.Native.Nat.{_-_, _≤_}
-use native.Mathlib.Numerals.{add-one}
+use mathlib.Core.Path.{refl}
 use native.Mathlib.Omega.{arith}
-use Rattle.cipher.specs.Cipher.{round, rounds}
-use Rattle.cipher.proofs.Laws.{cipher-by-rounds}
-use Rattle.columns.specs.Columns.{stateFrom}
+use Rattle.word_cipher.proofs.Mixing.{apart}
 use borrow.Author.Needs.{needs}
 use Rattle.word_cipher.proofs.encrypt_block.Statement.{statement}
 use Rattle.word_cipher.proofs.encrypt_block.Tie as tie
 
-abbrev Inv-loop : tie.InvT-loop
-Inv-loop tables expanded table s₀ n₀ s n = (n ≤ 13) × (stateFrom s ≡ rounds expanded n (stateFrom s₀))
-
-abbrev μ-loop : tie.MeasureT-loop
-μ-loop tables expanded table s₀ n₀ s n = 13 - n
-
-loop-holds : tie.Need-loop-holds Inv-loop μ-loop
-unfolding rounds
-loop-holds c = (search needs, refl)
-
-loop-again : tie.Need-loop-again Inv-loop μ-loop
-unfolding rounds round
-loop-again c = (search needs, rw add-one (cc (add-one (c .before .before .before .loop .n))))
-
-returns : tie.Need-returns Inv-loop μ-loop
-returns c =
-    let e : c .before .before .before .before .before .loop .n ≡ 13 = omega arith in
-    let given = c .before .before .before .before .before .before .before .before .before .before .args in
-    cc (cipher-by-rounds (given .expanded .now) (given .block))
+encrypt-apart-requires : tie.Need-encrypt-apart-requires
+encrypt-apart-requires c κs =
+    let is = c .before .before .before .before .before .pre in
+    record {
+      at-first = apart is 0 0 (omega arith) refl;
+      at-second = apart is 1 256 (omega arith) refl;
+      at-third = apart is 2 512 (omega arith) refl;
+      at-fourth = apart is 3 768 (omega arith) refl;
+    }
 
 pub encrypt-block-spec : {M : Type 1} → statement M
 encrypt-block-spec =
     tie.close
-    (tie.spec Inv-loop μ-loop (λ c κs. search needs) (λ c κs. search needs) (λ c κs. search needs) loop-holds (λ c.
-    search needs) (λ c κs. search needs) (λ c κs. search needs) (λ c. search needs) (λ c. search needs)
-    loop-again (λ c κs. search needs) (λ c κs. search needs) (λ c κs. search needs) returns)
+    (tie.spec (λ c. search needs) (λ c. search needs) (λ c. search needs) (λ c. search needs) (λ c. search needs)
+    (λ c. search needs) (λ c. search needs) (λ c. search needs) (λ c. search needs) (λ c. search needs)
+    (λ c. search needs) (λ c. search needs) encrypt-apart-requires (λ c. search needs))

@@ -13,10 +13,10 @@ use Rattle.ghash.proofs.product.table.Statement.{statement}
 use Rattle.ghash.proofs.product.table.Tie as tie
 
 abbrev Inv-loop : tie.InvT-loop
-Inv-loop h t₀ n₀ t n = (n ≤ 16) × (length t ≡ 32) × ((m : ℕ) → m < n → entry t m ≡ productRounds 4 m 0 (value h))
+Inv-loop h second third fourth t₀ n₀ t n = (n ≤ 16) × (length t ≡ 32) × ((m : ℕ) → m < n → entry t m ≡ productRounds 4 m 0 (value h))
 
 abbrev μ-loop : tie.MeasureT-loop
-μ-loop h t₀ n₀ t n = 16 - n
+μ-loop h second third fourth t₀ n₀ t n = 16 - n
 
 loop-holds : tie.Need-loop-holds Inv-loop μ-loop
 loop-holds c = (omega arith, refl, λ m l. absurd (omega arith))
@@ -24,7 +24,7 @@ loop-holds c = (omega arith, refl, λ m l. absurd (omega arith))
 loop-again : tie.Need-loop-again Inv-loop μ-loop
 loop-again c =
     let at-loop = c .before .before .loop in
-    let h = value (c .before .before .before .args .h) in
+    let h = value (c .before .before .before .before .before .before .args .h) in
     let made = c .four-rounds in (
       omega arith,
       simp length-set (at-loop .inv .1),
@@ -38,6 +38,6 @@ returns c = record { entries = λ n l. c .before .loop .inv .2 n (omega arith) }
 pub table-spec : {M : Type 1} → statement M
 table-spec =
     tie.close
-    (tie.spec Inv-loop μ-loop loop-holds (λ c κs. search needs) (λ c. omega arith) (λ c. omega arith)
+    (tie.spec Inv-loop μ-loop (λ c κs. search needs) (λ c κs. search needs) (λ c κs. search needs) loop-holds (λ c κs. search needs) (λ c. omega arith) (λ c. omega arith)
     (λ c. omega arith) (λ c. omega arith) (λ c. omega arith) (λ c. omega arith) (λ c. omega arith) (λ c. omega arith)
     (λ c. omega arith) loop-again returns)

@@ -15,7 +15,7 @@ use Rattle.word_cipher.proofs.rounds.rows_shifted.Tie as tie
 returns : tie.Need-returns
 unfolding shiftRows subBytes stateFrom tab
 returns c =
-    let s = subBytes (stateFrom (c .before .before .before .before .args .t2)) in
+    let s = subBytes (stateFrom (c .before .before .before .before .before .before .before .args .t4)) in
     columns (λ r c. at s r ((c + r) % 4)) (renamed (λ r. at s r ((0 + r) % 4)) (c .before .before .before .substituted-column .ensures) refl refl refl refl)
     (renamed (λ r. at s r ((1 + r) % 4)) (c .before .before .substituted-column2 .ensures) refl refl refl refl)
     (renamed (λ r. at s r ((2 + r) % 4)) (c .before .substituted-column3 .ensures) refl refl refl refl)

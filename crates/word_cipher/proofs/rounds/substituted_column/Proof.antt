@@ -1,26 +1,32 @@
--- `substituted_column` is right from what the four lookups and the joining ensure.
+-- `substituted_column` is right because each of the four words has the S-box in the row that it is read for.
 -- Assumes nothing.
-use mathlib.Core.Path.{_∙_, ap}
+use mathlib.Core.Path.{_≡_, refl, _∙_, ap}
+use Prim.Native.Nat.{ℕ, _%_}
 use native.Mathlib.Omega.{arith}
 use Rattle.octets.specs.Lists.{octet}
 use Rattle.substitution.specs.Sbox.{sbox}
-use Rattle.word_cipher.specs.Diagonal.{diagonal}
+use Rattle.columns.specs.Words.{rowOf}
 use Rattle.columns.proofs.Columns.{renamed}
+use Rattle.word_cipher.specs.Diagonal.{diagonal}
+use Rattle.word_cipher.proofs.Mixing.{substitutes}
 use borrow.Author.Needs.{needs}
 use Rattle.word_cipher.proofs.rounds.substituted_column.Statement.{statement}
 use Rattle.word_cipher.proofs.rounds.substituted_column.Tie as tie
 
 returns : tie.Need-returns
 returns c =
-    let given = c .before .before .before .before .before .args in
+    let start = c .before .before .before .before .before .before .before .before in
+    let given = start .args in
+    let d : ℕ = given .d in
+    let word : ℕ = octet (given .second .now) (d % 256) in
+    let lowest : word % 256 ≡ rowOf 3 word = omega arith in
     renamed (λ i. octet (diagonal (given .a) (given .b) (given .c) (given .d)) i) (c .joined .ensures)
-    (c .before .before .before .before .substituted .ensures)
-    (c .before .before .before .substituted2 .ensures)
-    (c .before .before .substituted3 .ensures)
-    (c .before .substituted4 .ensures ∙ ap sbox (omega arith))
+    (substitutes (start .pre .2) (rowOf 0 (given .a)) 0 (omega arith) (omega arith) refl)
+    (substitutes (start .pre .0) (rowOf 1 (given .b)) 1 (omega arith) (omega arith) refl)
+    (substitutes (start .pre .0) (rowOf 2 (given .c)) 2 (omega arith) (omega arith) refl)
+    (lowest ∙ substitutes (start .pre .1) (d % 256) 3 (omega arith) (omega arith) refl ∙ ap sbox (omega arith))
 
 pub substituted-column-spec : {M : Type 1} → statement M
 substituted-column-spec =
     tie.close
-    (tie.spec (λ c. search needs) (λ c κs. search needs) (λ c. search needs) (λ c κs. search needs) (λ c. search needs)
-    (λ c κs. search needs) (λ c. search needs) (λ c κs. search needs) (λ c κs. search needs) returns)
+    (tie.spec (λ c. search needs) (λ c. search needs) (λ c. search needs) (λ c. search needs) (λ c. search needs) (λ c. search needs) (λ c. search needs) (λ c. search needs) (λ c. search needs) (λ c. search needs) (λ c. search needs) (λ c. search needs) (λ c. search needs) (λ c. search needs) (λ c. search needs) (λ c. search needs) (λ c κs. search needs) returns)
