@@ -23,7 +23,7 @@ use Rattle.protection.specs.Protection.{securedLength, numberIn, clearLength}
 use Rattle.judging.specs.Replies.{Seen, frontTests, sendingTests, securingTests, securing, receivingTests, checkingTests, checking}
 use Rattle.judging.specs.Said.{Said, kindSaid}
 use Rattle.judging.proofs.First.{none-left, passes, passed}
-use Rattle.protection.proofs.Reading.{length-clear-data}
+use Rattle.opening.proofs.Reading.{length-clear-data}
 use Rattle.protection.proofs.Wire as wire
 
 -- what the association that is seen holds

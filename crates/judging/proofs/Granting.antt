@@ -16,8 +16,9 @@ use Rattle.frame.proofs.Room.{Obeys, obeyed}
 use Rattle.association.specs.declared.held.Held.{Held}
 use Rattle.services.specs.SecurityHeader.{securityLength}
 use Rattle.protection.specs.Protection.{securedLength, securedFrame, clearLength}
-use Rattle.protection.specs.Steps.{Securable, openingOf, Opens}
-use Rattle.protection.specs.declared.checked.Opening.{Opening}
+use Rattle.sealing.specs.Steps.{Securable}
+use Rattle.opening.specs.Steps.{openingOf, Opens}
+use Rattle.opening.specs.declared.checked.Opening.{Opening}
 use Rattle.protection.proofs.Wire.{length-whole}
 use Rattle.judging.specs.Answers.{first}
 use Rattle.judging.specs.Replies.{sendingTests, receivingTests}

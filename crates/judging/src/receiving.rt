@@ -5,17 +5,17 @@ use crate::verdict::Verdict;
 use crate::window::accepts;
 use association::plan_for;
 use frame::too_short;
-use protection::Opening;
-use protection::clear_length;
-use protection::mac_right;
-use protection::number_of;
+use opening::Opening;
+use opening::clear_length;
+use opening::mac_right;
+use opening::number_of;
 use services::security_length;
 ghost use mathlib.Core.Path.{_≡_};
 ghost use mathlib.Core.Bool.{true};
 ghost use Rattle.kinds.specs.Kinds.{framed};
 ghost use Rattle.frame.specs.Rules.{obeys};
 ghost use Rattle.engines.specs.Lent.{Lent};
-ghost use Rattle.protection.specs.Steps.{openingOf};
+ghost use Rattle.opening.specs.Steps.{openingOf};
 ghost use Rattle.judging.specs.Verdicts.{Judged, receivingJudged};
 
 // Whether the data is released, after the last number used. The MAC is judged before the window. Nothing is changed, and nothing decrypted.

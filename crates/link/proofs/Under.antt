@@ -14,8 +14,8 @@ use Rattle.association.specs.declared.held.Held.{Held}
 use Rattle.association.specs.declared.search.Found.{Found}
 use Rattle.association.specs.declared.search.Wanted.{Wanted}
 use Rattle.protection.specs.Protection.{securedLength, securedFrame, numberIn, macRight, clearLength, clearData}
-use Rattle.protection.specs.Steps.{openingOf}
-use Rattle.protection.specs.declared.checked.Opening.{Opening}
+use Rattle.opening.specs.Steps.{openingOf}
+use Rattle.opening.specs.declared.checked.Opening.{Opening}
 use Rattle.judging.specs.Answers.{first}
 use Rattle.judging.specs.Replies.{Seen, seen, Reply, raising, frontTests, sendingTests, securingTests, securing, receivingTests, checkingTests, checking}
 use Rattle.judging.specs.Said.{Said, kindSaid}

@@ -16,7 +16,7 @@ use Rattle.association.specs.Stores.{storesFor}
 use Rattle.association.specs.declared.held.Held.{Held}
 use Rattle.services.specs.SecurityHeader.{securityLength}
 use Rattle.protection.specs.Protection.{numberIn, macRight, clearLength}
-use Rattle.protection.specs.Steps.{Opens}
+use Rattle.opening.specs.Steps.{Opens}
 use Rattle.judging.specs.Answers.{Test, first}
 use Rattle.judging.specs.Replies.{receivingTests}
 use Rattle.judging.specs.declared.answers.Answer.the-variants as answer

@@ -10,9 +10,9 @@ use Rattle.frame.specs.Rules.{obeys}
 use Rattle.association.specs.Association.{associationOf, heldIn}
 use Rattle.association.specs.declared.held.Held.{Held}
 use Rattle.protection.specs.Protection.{macRight, clearData}
-use Rattle.protection.specs.Steps.{openingOf}
-use Rattle.protection.specs.declared.checked.Opening.{Opening}
-use Rattle.protection.proofs.Reading.{length-clear-data}
+use Rattle.opening.specs.Steps.{openingOf}
+use Rattle.opening.specs.declared.checked.Opening.{Opening}
+use Rattle.opening.proofs.Reading.{length-clear-data}
 use Rattle.judging.specs.Replies.{Reply}
 use Rattle.link.specs.Steps.{receivingReply}
 use Rattle.judging.specs.Verdicts.{Judgement, judgement, receivingJudged, Judged}
