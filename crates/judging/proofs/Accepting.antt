@@ -8,8 +8,8 @@ use native.Mathlib.Nat.{zero-add, zero-mul, suc-mul}
 use native.Mathlib.Omega.{arith}
 use borrow.Author.Tests.{le-leb, lt-leb, ne-eqb}
 use lib.Dec.{eqb, leb, ltb}
-use Rattle.association.specs.Numbers.{accepts}
-use Rattle.association.proofs.Agreement.{accepted}
+use Rattle.numbers.specs.Numbers.{accepts}
+use Rattle.numbers.proofs.Agreement.{accepted}
 
 pub accepts-parts : (last window above n : ℕ) → n < 4294967296
     → ((eqb above 0 && ltb last n) && leb n (last + window)) ≡ accepts last window (above * 4294967296 + n)

@@ -15,7 +15,7 @@ use Rattle.frame.specs.Parts.{exceeds, tooShort}
 use Rattle.frame.specs.Rules.{obeys}
 use Rattle.kinds.proofs.Kept.{lawful}
 use Rattle.association.specs.Association.{heldIn, isNone, theOne}
-use Rattle.association.specs.Numbers.{greatest, accepts, spent}
+use Rattle.numbers.specs.Numbers.{greatest, accepts, spent}
 use Rattle.association.specs.declared.held.Held.{Held}
 use Rattle.judging.specs.Answers.{Test, first}
 use Rattle.services.specs.SecurityHeader.{securityLength}

@@ -10,7 +10,7 @@ use Rattle.kinds.specs.declared.framing.Framing.{Framing}
 use Rattle.marks.specs.Stores.{storesOf}
 use Rattle.marks.specs.declared.plans.Store.{Store}
 use Rattle.association.specs.Search.{entryFor}
-use Rattle.association.specs.Stores.{storesFor}
+use Rattle.numbers.specs.Stores.{storesFor}
 use Rattle.association.specs.declared.held.Held.{Held}
 use Rattle.association.specs.declared.search.Found.the-variants as found
 use Rattle.association.specs.declared.search.Wanted.{Wanted}

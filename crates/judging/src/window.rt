@@ -2,7 +2,7 @@
 use services::Sequence;
 ghost use mathlib.Core.Path.{_≡_};
 ghost use Prim.Native.Nat.{_+_, _*_};
-ghost use Rattle.association.specs.Numbers.{accepts};
+ghost use Rattle.numbers.specs.Numbers.{accepts};
 
 // The window's test, over whole numbers: nothing is subtracted, and nothing wraps.
 pub(crate) fn accepts(last: u32, window: u16, n: Sequence) -> bool

@@ -9,7 +9,7 @@ use Rattle.kinds.specs.Kinds.{Kind, framed}
 use Rattle.kinds.specs.declared.framing.Framing.{Framing}
 use Rattle.image.specs.Image.{bodyOf, keyOf}
 use Rattle.association.specs.Association.{Association, associationOf, held, heldIn, theOne, indexOf}
-use Rattle.association.specs.Numbers.{numberOf}
+use Rattle.numbers.specs.Numbers.{numberOf}
 use Rattle.association.specs.declared.held.Held.{Held}
 use Rattle.association.specs.declared.search.Found.{Found}
 use Rattle.association.specs.declared.search.Wanted.{Wanted}

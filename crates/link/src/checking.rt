@@ -2,13 +2,13 @@
 use crate::outcome::Outcome;
 use crate::outcome::carried_out;
 use crate::outcome::refused;
-use association::Numbers;
 use association::held_at;
 use judging::Grant;
 use judging::Verdict;
 use judging::judge_receiving;
 use kinds::Framing;
 use marks::make_all;
+use numbers::Numbers;
 use opening::Opening;
 use opening::opening_of;
 use opening::release_data;

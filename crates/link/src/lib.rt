@@ -5,12 +5,12 @@ mod checking;
 mod outcome;
 mod securing;
 
-use association::Numbers;
-use association::Standing;
 use checking::check_under;
 use judging::Admission;
 use judging::admit_receiving;
 use judging::admit_sending;
+use numbers::Numbers;
+use numbers::Standing;
 use outcome::refused;
 use securing::secure_under;
 ghost use mathlib.Core.List.{[]};
@@ -25,7 +25,7 @@ pub use outcome::Outcome;
 pub fn load(image: &[u8], numbers: Numbers) -> Outcome
     ensures { λ r. ⌜ leaving r (now (image .entry)) [] ≡ loaded (now (image .entry)) (numbers .last) ⌝ }
 {
-    let given = association::load(image, numbers);
+    let given = numbers::load(image, numbers);
     let standing = given.standing;
     let back = given.numbers;
     match standing {

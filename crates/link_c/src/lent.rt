@@ -1,8 +1,8 @@
 // Document 01, 'Managed numbers': the 32 numbers, between the list that the caller lends and the value that the module works on.
 use crate::packing::pack;
-use association::Numbers;
 use image::image_ok;
 use link::Answer;
+use numbers::Numbers;
 ghost use mathlib.Core.Path.{_≡_};
 ghost use mathlib.Core.Bool.{cond};
 ghost use lib.ListN.{length};

@@ -13,7 +13,7 @@ use packing::pack;
 use word_tables::word_tables;
 ghost use mathlib.Core.List.{[]};
 ghost use mathlib.Core.Path.{_≡_};
-ghost use Rattle.association.specs.Stores.{storesMade, afterStores};
+ghost use Rattle.numbers.specs.Stores.{storesMade, afterStores};
 ghost use Rattle.link_c.specs.Interface.{Returned, told, loadCall, secureCall, checkCall};
 
 // A restart.
@@ -100,5 +100,5 @@ pub extern "C" fn xistalvo_ground_check(
 pub extern "C" fn xistalvo_raise(image: &mut [u8], entry: u8, number: u32, stores: u32) -> u32
     ensures { λ r. ⌜ (r ≡ storesMade (now (image .entry)) entry number stores) × (now (image .exit) ≡ afterStores (now (image .entry)) entry number stores) ⌝ }
 {
-    association::raise(image, entry, number, stores)
+    numbers::raise(image, entry, number, stores)
 }

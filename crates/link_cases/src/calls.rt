@@ -4,12 +4,12 @@ use crate::answers::print_answer;
 use crate::fields::four;
 use crate::fields::octet;
 use crate::fields::two;
-use association::Numbers;
-use association::raise;
 use lines::field;
 use lines::print_number;
 use lines::read_octets;
 use link::Outcome;
+use numbers::Numbers;
+use numbers::raise;
 use octets::octet_at;
 
 fn printed(outcome: Outcome, output: &[u8]) -> Numbers {

@@ -8,7 +8,7 @@ use Rattle.kinds.specs.Kinds.{kindBehind, withCheckField}
 use Rattle.kinds.specs.declared.kinds.Named.{Named}
 use Rattle.frame.specs.Rules.{obeys}
 use Rattle.image.specs.Image.{validImage}
-use Rattle.association.specs.Numbers.{agrees}
+use Rattle.numbers.specs.Numbers.{agrees}
 use Rattle.association.specs.declared.search.Wanted.{Wanted}
 use Rattle.judging.specs.Wants.{wanted}
 use Rattle.judging.specs.Said.{saying}

@@ -11,8 +11,8 @@ use Rattle.kinds.specs.Kinds.{Kind, framed}
 use Rattle.frame.specs.Parts as parts
 use Rattle.marks.specs.Stores.{storesOf}
 use Rattle.marks.specs.declared.plans.Plan.{Plan}
-use Rattle.association.specs.Numbers.{accepts}
-use Rattle.association.specs.Stores.{storesFor}
+use Rattle.numbers.specs.Numbers.{accepts}
+use Rattle.numbers.specs.Stores.{storesFor}
 use Rattle.association.specs.declared.held.Held.{Held}
 use Rattle.services.specs.SecurityHeader.{securityLength}
 use Rattle.protection.specs.Protection.{numberIn, macRight, clearLength}
