@@ -23,7 +23,6 @@ use Rattle.protection.specs.Protection.{securedLength, numberIn, clearLength}
 use Rattle.judging.specs.Replies.{Seen, frontTests, sendingTests, securingTests, securing, receivingTests, checkingTests, checking}
 use Rattle.judging.specs.Said.{Said, kindSaid}
 use Rattle.judging.proofs.First.{none-left, passes, passed}
-use Rattle.opening.proofs.Reading.{length-clear-data}
 use Rattle.protection.proofs.Wire as wire
 
 -- what the association that is seen holds
@@ -163,4 +162,4 @@ pub checking-size : (see : Seen) (right : Bool) (said : Said) (frame : List ℕ)
     length (q .result) ≡ q .size
 unfolding checking
 checking-size see right said frame room =
-    length-clear-data (heldBy see) (kindSaid said) frame
+    wire.length-clear-data (heldBy see) (kindSaid said) frame

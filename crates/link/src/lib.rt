@@ -5,10 +5,10 @@ mod checking;
 mod outcome;
 mod securing;
 
+use admission::admit_receiving;
+use admission::admit_sending;
 use checking::check_under;
 use judging::Admission;
-use judging::admit_receiving;
-use judging::admit_sending;
 use numbers::Numbers;
 use numbers::Standing;
 use outcome::refused;

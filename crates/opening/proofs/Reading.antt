@@ -14,10 +14,9 @@ use Rattle.frame.specs.Parts.{macStart, trailerStart, securedParts, securityOf,
 use Rattle.frame.specs.declared.parts.SecuredParts.{SecuredParts}
 use Rattle.association.specs.declared.held.Held.{Held}
 use Rattle.services.specs.SecurityHeader.{securityLength}
-use Rattle.protection.specs.Protection.{fieldIn, textIn, clearData, clearLength}
+use Rattle.protection.specs.Protection.{fieldIn, textIn, clearLength}
 use Rattle.opening.specs.Steps.{Opens}
 use Rattle.opening.specs.declared.checked.Opening.{Opening}
-use Rattle.services.proofs.ServiceLaws.{lawful}
 use Rattle.protection.proofs.Slices.{slice-as-part}
 
 -- where the parts of an opened frame end: one behind the other, inside the frame
@@ -82,8 +81,3 @@ module _ (o : Opening) (frame : List ℕ) (s : Opens o frame) where
       ∙ ap (λ (x : ℕ). take 16 (drop x frame)) c
       ∙ ap (λ (x : ℕ). take x (drop (macStart k frame) frame)) (sym m)
       ∙ slice-as-part (macStart k frame) (trailerStart k frame) frame
-
--- the clear data is as long as the data that came in
-pub length-clear-data : (h : Held) (k : Kind) (frame : List ℕ) → length (clearData h k frame) ≡ clearLength h k frame
-unfolding clearData clearLength
-length-clear-data h k frame = lawful (h .service) .lengthIn (h .key) (fieldIn h k frame) (textIn h k frame)

@@ -12,13 +12,13 @@ use Rattle.association.specs.declared.held.Held.{Held}
 use Rattle.protection.specs.Protection.{macRight, clearData}
 use Rattle.opening.specs.Steps.{openingOf}
 use Rattle.opening.specs.declared.checked.Opening.{Opening}
-use Rattle.opening.proofs.Reading.{length-clear-data}
+use Rattle.protection.proofs.Wire.{length-clear-data}
 use Rattle.judging.specs.Replies.{Reply}
 use Rattle.link.specs.Steps.{receivingReply}
 use Rattle.judging.specs.Verdicts.{Judgement, judgement, receivingJudged, Judged}
 use Rattle.judging.specs.declared.verdict.Verdict.{Verdict}
 use Rattle.link.proofs.Carried.{carried-refusal, carried-grant}
-use Rattle.judging.proofs.Granting.{opened-so, releasable}
+use Rattle.verdicts.proofs.Granting.{opened-so, releasable}
 use Rattle.link.proofs.Under.{held-under, receiving-judged}
 use borrow.Author.Needs.{needs}
 use Rattle.link.proofs.checking.check_under.Statement.{statement}

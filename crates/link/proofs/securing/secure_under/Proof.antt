@@ -14,7 +14,7 @@ use Rattle.link.specs.Steps.{sendingReply}
 use Rattle.judging.specs.Verdicts.{Judgement, judgement, Judged}
 use Rattle.judging.specs.declared.verdict.Verdict.{Verdict}
 use Rattle.link.proofs.Carried.{carried-refusal, carried-grant}
-use Rattle.judging.proofs.Granting.{securable, frame-size}
+use Rattle.verdicts.proofs.Granting.{securable, frame-size}
 use Rattle.link.proofs.Under.{held-under, sending-judged}
 use borrow.Author.Needs.{needs}
 use Rattle.link.proofs.securing.secure_under.Statement.{statement}

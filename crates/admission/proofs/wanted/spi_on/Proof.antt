@@ -6,8 +6,8 @@ use Rattle.octets.specs.Numbers.{numberAt}
 use Rattle.kinds.specs.Kinds.{kindBehind}
 use Rattle.kinds.specs.declared.kinds.Named.{Named}
 use borrow.Author.Needs.{needs}
-use Rattle.judging.proofs.wanted.spi_on.Statement.{statement}
-use Rattle.judging.proofs.wanted.spi_on.Tie as tie
+use Rattle.admission.proofs.wanted.spi_on.Statement.{statement}
+use Rattle.admission.proofs.wanted.spi_on.Tie as tie
 
 returns : tie.Need-returns
 returns c =

@@ -13,14 +13,14 @@ use Rattle.marks.specs.declared.plans.Plan.{Plan}
 use Rattle.association.specs.declared.held.Held.{Held}
 use Rattle.services.specs.SecurityHeader.{securityLength}
 use Rattle.protection.specs.Protection.{securedLength}
 use Rattle.judging.specs.Answers.{Test, first}
 use Rattle.judging.specs.Replies.{sendingTests}
 use Rattle.judging.specs.declared.answers.Answer.the-variants as answer
 use Rattle.judging.proofs.First.{none-left, applies, passes}
 use Rattle.judging.proofs.Admitting.{refuses}
 use borrow.Author.Needs.{needs}
-use Rattle.judging.proofs.sending.judge_sending.Statement.{statement}
-use Rattle.judging.proofs.sending.judge_sending.Tie as tie
+use Rattle.verdicts.proofs.sending.judge_sending.Statement.{statement}
+use Rattle.verdicts.proofs.sending.judge_sending.Tie as tie
 
 -- ---- what the calls say of the frame
 

@@ -1,16 +1,16 @@
 // Document 01, 'What comes back': a clear frame under the entry that matches, 11, 6 and 10 in the paper's order.
-use crate::answers::Answer;
-use crate::verdict::Grant;
-use crate::verdict::Verdict;
 use association::Held;
 use frame::exceeds;
 use frame::secured_length;
+use judging::Answer;
+use judging::Grant;
+use judging::Verdict;
 use kinds::Framing;
 use numbers::plan_for;
 use services::security_length;
 ghost use mathlib.Core.Path.{_≡_};
 ghost use Rattle.kinds.specs.Kinds.{framed};
 ghost use Rattle.judging.specs.Verdicts.{Judged, sendingJudged};
 
 const GREATEST: u32 = 4294967295;
 

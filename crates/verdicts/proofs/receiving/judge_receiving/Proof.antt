@@ -17,16 +17,16 @@ use Rattle.association.specs.declared.held.Held.{Held}
 use Rattle.services.specs.SecurityHeader.{securityLength}
 use Rattle.protection.specs.Protection.{numberIn, macRight, clearLength}
 use Rattle.opening.specs.Steps.{Opens}
 use Rattle.judging.specs.Answers.{Test, first}
 use Rattle.judging.specs.Replies.{receivingTests}
 use Rattle.judging.specs.declared.answers.Answer.the-variants as answer
-use Rattle.judging.proofs.Accepting.{accepted-low}
+use Rattle.verdicts.proofs.Accepting.{accepted-low}
 use Rattle.judging.proofs.First.{none-left, applies, passes}
-use Rattle.judging.proofs.Granting.{opens}
+use Rattle.verdicts.proofs.Granting.{opens}
 use Rattle.judging.proofs.Admitting.{refuses}
 use borrow.Author.Needs.{needs}
-use Rattle.judging.proofs.receiving.judge_receiving.Statement.{statement}
-use Rattle.judging.proofs.receiving.judge_receiving.Tie as tie
+use Rattle.verdicts.proofs.receiving.judge_receiving.Statement.{statement}
+use Rattle.verdicts.proofs.receiving.judge_receiving.Tie as tie
 
 -- ---- the places that are looked back to: from each test to the one before it
 

@@ -1,5 +1,4 @@
 // Document 01, 'What comes back': the tests that come first in securing and in checking, 1, 2, 3, 12, 4 in the papers' order. Nothing is changed.
-use crate::answers::Answer;
 use crate::wanted::RECEIVING;
 use crate::wanted::SENDING;
 use crate::wanted::spi_on;
@@ -8,6 +7,8 @@ use association::Found;
 use association::find;
 use frame::field_ok;
 use frame::framing_obeyed;
+use judging::Admission;
+use judging::Answer;
 use kinds::Framing;
 use kinds::Named;
 use kinds::kind_of;
@@ -19,15 +20,9 @@ ghost use mathlib.Core.Bool.{true, false};
 ghost use Rattle.kinds.specs.Kinds.{kindIs, kindOf, named};
 ghost use Rattle.image.specs.Image.{validImage};
 ghost use Rattle.numbers.specs.Numbers.{agrees};
 ghost use Rattle.judging.specs.Said.{saying};
 ghost use Rattle.judging.specs.Verdicts.{Admitted};
 ghost use Rattle.judging.specs.Wants.{wanted, securingWants, checkingWants};
-
-// The framing of the frame and the entry that it matches, or the first refusal.
-pub enum Admission {
-    To(Framing, u8),
-    Refused(Answer),
-}
 
 // A frame of a kind, past 1 and 2: 3, 12 and 4.
 fn admit_kind(

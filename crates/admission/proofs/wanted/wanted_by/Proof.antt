@@ -1,9 +1,9 @@
 -- `wanted_by` is right because the kind reads the identifiers of its own frames.
 -- Assumes nothing.
 use Rattle.judging.specs.Wants.{wanted}
 use borrow.Author.Needs.{needs}
-use Rattle.judging.proofs.wanted.wanted_by.Statement.{statement}
-use Rattle.judging.proofs.wanted.wanted_by.Tie as tie
+use Rattle.admission.proofs.wanted.wanted_by.Statement.{statement}
+use Rattle.admission.proofs.wanted.wanted_by.Tie as tie
 
 returns : tie.Need-returns
 unfolding wanted

@@ -10,13 +10,13 @@ use Rattle.frame.specs.Closing.{fieldOk}
 use Rattle.frame.specs.Rules.{obeys}
 use Rattle.association.specs.Search.{entryFor}
 use Rattle.association.specs.declared.search.Wanted.{Wanted}
 use Rattle.judging.specs.Wants.{wanted}
 use Rattle.judging.specs.Said.{saying}
 use Rattle.judging.specs.declared.answers.Answer.the-variants as answer
 use Rattle.judging.proofs.Admitting.{refuses, by-3, by-12, by-4, admits}
 use borrow.Author.Needs.{needs}
-use Rattle.judging.proofs.admission.admit_kind.Statement.{statement}
-use Rattle.judging.proofs.admission.admit_kind.Tie as tie
+use Rattle.admission.proofs.admission.admit_kind.Statement.{statement}
+use Rattle.admission.proofs.admission.admit_kind.Tie as tie
 
 abbrev start : tie.After-framing-obeyed → tie.Start
 start c = c .before .before .before

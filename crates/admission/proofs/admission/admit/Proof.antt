@@ -10,14 +10,14 @@ use Rattle.frame.specs.Rules.{obeys}
 use Rattle.image.specs.Image.{validImage}
 use Rattle.numbers.specs.Numbers.{agrees}
 use Rattle.association.specs.declared.search.Wanted.{Wanted}
 use Rattle.judging.specs.Wants.{wanted}
 use Rattle.judging.specs.Said.{saying}
 use Rattle.judging.specs.declared.answers.Answer.the-variants as answer
 use Rattle.judging.proofs.Admitting.{refuses, by-1, by-2, by-3}
 use Rattle.judging.proofs.Standings.{broken, disagreeing, standing-well}
 use borrow.Author.Needs.{needs}
-use Rattle.judging.proofs.admission.admit.Statement.{statement}
-use Rattle.judging.proofs.admission.admit.Tie as tie
+use Rattle.admission.proofs.admission.admit.Statement.{statement}
+use Rattle.admission.proofs.admission.admit.Tie as tie
 
 abbrev start : tie.After-test-standing → tie.Start
 start c = c .before .before .before

@@ -6,12 +6,12 @@ use Prim.Native.Nat.{ℕ}
 use Rattle.kinds.specs.Kinds.{kindBehind}
 use Rattle.kinds.specs.declared.kinds.Named.{Named}
 use Rattle.protection.specs.Protection.{spiIn}
 use Rattle.judging.specs.Said.{saying}
 use Rattle.judging.specs.Verdicts.{Admitted}
 use Rattle.judging.specs.Wants.{receiving, wanted}
 use borrow.Author.Needs.{needs}
-use Rattle.judging.proofs.admission.admit_receiving.Statement.{statement}
-use Rattle.judging.proofs.admission.admit_receiving.Tie as tie
+use Rattle.admission.proofs.admission.admit_receiving.Statement.{statement}
+use Rattle.admission.proofs.admission.admit_receiving.Tie as tie
 
 returns : tie.Need-returns
 returns c =

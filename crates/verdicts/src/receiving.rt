@@ -1,9 +1,9 @@
 // Document 01, 'What comes back': a secured frame under the entry that matches, 5, 6, 7 and 8 in the paper's order.
-use crate::answers::Answer;
-use crate::verdict::Grant;
-use crate::verdict::Verdict;
 use crate::window::accepts;
 use frame::too_short;
+use judging::Answer;
+use judging::Grant;
+use judging::Verdict;
 use numbers::plan_for;
 use opening::Opening;
 use opening::clear_length;

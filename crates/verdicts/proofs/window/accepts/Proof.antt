@@ -1,9 +1,9 @@
 -- `accepts` is right because a number with a multiple of 2^32 in it is above the greatest, and one without is its lower part.
 -- Assumes nothing.
-use Rattle.judging.proofs.Accepting.{accepts-parts}
+use Rattle.verdicts.proofs.Accepting.{accepts-parts}
 use borrow.Author.Needs.{needs}
-use Rattle.judging.proofs.window.accepts.Statement.{statement}
-use Rattle.judging.proofs.window.accepts.Tie as tie
+use Rattle.verdicts.proofs.window.accepts.Statement.{statement}
+use Rattle.verdicts.proofs.window.accepts.Tie as tie
 
 returns : tie.Need-returns
 returns c = let g = c .before .args in accepts-parts (g .last) (g .window) (g .n .above) (g .n .number) (search needs)
