@@ -22,7 +22,7 @@ pub(crate) fn secure_lent(
     if numbers.len() != 32 {
         return refuse_count(image);
     }
-    let outcome = link::secure_by(
+    let outcome = securing::secure_by(
         tables,
         image,
         numbers_in(numbers),
@@ -52,7 +52,7 @@ pub(crate) fn check_lent(
     if numbers.len() != 32 {
         return refuse_count(image);
     }
-    let outcome = link::check_by(
+    let outcome = checking::check_by(
         tables,
         image,
         numbers_in(numbers),

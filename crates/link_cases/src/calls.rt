@@ -41,9 +41,9 @@ fn outcome(
     let kind = octet(line, 1);
     let field = octet(line, 2) != 0;
     if octet_at(line, 0) == b's' {
-        return link::secure(image, numbers, kind, field, two(line, 3), frame, output);
+        return securing::secure(image, numbers, kind, field, two(line, 3), frame, output);
     }
-    link::check(image, numbers, kind, field, frame, output)
+    checking::check(image, numbers, kind, field, frame, output)
 }
 
 // Such a line, by the numbers of its fields ROOM, which is the length of the output, at most 4096, and FRAME.

@@ -14,15 +14,15 @@ use Rattle.opening.specs.Steps.{openingOf}
 use Rattle.opening.specs.declared.checked.Opening.{Opening}
 use Rattle.protection.proofs.Wire.{length-clear-data}
 use Rattle.judging.specs.Replies.{Reply}
 use Rattle.link.specs.Steps.{receivingReply}
 use Rattle.judging.specs.Verdicts.{Judgement, judgement, receivingJudged, Judged}
 use Rattle.judging.specs.declared.verdict.Verdict.{Verdict}
 use Rattle.link.proofs.Carried.{carried-refusal, carried-grant}
 use Rattle.verdicts.proofs.Granting.{opened-so, releasable}
 use Rattle.link.proofs.Under.{held-under, receiving-judged}
 use borrow.Author.Needs.{needs}
-use Rattle.link.proofs.checking.check_under.Statement.{statement}
-use Rattle.link.proofs.checking.check_under.Tie as tie
+use Rattle.checking.proofs.checking.check_under.Statement.{statement}
+use Rattle.checking.proofs.checking.check_under.Tie as tie
 
 abbrev start : tie.After-of → tie.Start
 start c = c .before .before .before .before .before .before .before .before
@@ -62,8 +62,10 @@ judged c =
     let d = at-judge c in
     let g = start d .args in
     subst (λ (j : Judgement). Judged (c .judge-receiving .result) j)
-    (receiving-judged (g .image .now) (g .numbers .last) (g .entry) _ _ (d .before .before .held-at .ensures) (d .of .ensures) (g .framing)
-    (g .frame .now) (length (g .output .now)) _ (d .before .opening-of .ensures))
+    (ap (λ (o : Opening). receivingJudged (g .image .now) (g .entry) (o .held) (d .of .result) (framed (o .framing)) (g .frame .now) (length (g .output .now)))
+    (d .before .opening-of .ensures)
+    ∙ receiving-judged (g .image .now) (g .numbers .last) (g .entry) _ _ (d .before .before .held-at .ensures) (d .of .ensures) (framed (g .framing))
+    (g .frame .now) (length (g .output .now)))
     (c .judge-receiving .ensures)
 
 returns : tie.Need-returns

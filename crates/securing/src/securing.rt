@@ -1,12 +1,12 @@
 // A clear frame under the entry that it matches: judged, and then it goes out secured.
-use crate::outcome::Outcome;
-use crate::outcome::carried_out;
-use crate::outcome::refused;
 use association::Held;
 use association::held_at;
 use judging::Grant;
 use judging::Verdict;
 use kinds::Framing;
+use link::Outcome;
+use link::carried_out;
+use link::refused;
 use marks::make_all;
 use numbers::Numbers;
 use sealing::write_secured;

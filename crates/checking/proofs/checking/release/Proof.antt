@@ -3,8 +3,8 @@
 use mathlib.Core.Path.{ap, _∙_}
 use Rattle.judging.specs.Answers.{granted}
 use borrow.Author.Needs.{needs}
-use Rattle.link.proofs.checking.release.Statement.{statement}
-use Rattle.link.proofs.checking.release.Tie as tie
+use Rattle.checking.proofs.checking.release.Statement.{statement}
+use Rattle.checking.proofs.checking.release.Tie as tie
 
 returns : tie.Need-returns
 returns c =

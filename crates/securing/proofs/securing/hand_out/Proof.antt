@@ -3,8 +3,8 @@
 use mathlib.Core.Path.{ap, _∙_}
 use Rattle.judging.specs.Answers.{granted}
 use borrow.Author.Needs.{needs}
-use Rattle.link.proofs.securing.hand_out.Statement.{statement}
-use Rattle.link.proofs.securing.hand_out.Tie as tie
+use Rattle.securing.proofs.securing.hand_out.Statement.{statement}
+use Rattle.securing.proofs.securing.hand_out.Tie as tie
 
 returns : tie.Need-returns
 returns c =

@@ -1,11 +1,11 @@
 // A secured frame under the entry that it matches: judged, and then its data is released.
-use crate::outcome::Outcome;
-use crate::outcome::carried_out;
-use crate::outcome::refused;
 use association::held_at;
 use judging::Grant;
 use judging::Verdict;
 use kinds::Framing;
+use link::Outcome;
+use link::carried_out;
+use link::refused;
 use marks::make_all;
 use numbers::Numbers;
 use opening::Opening;

@@ -4,17 +4,17 @@ use mathlib.Core.Path.{ap, _∙_, subst}
 use mathlib.Core.Bool.{false}
 use lib.ListN.{length}
 use Rattle.judging.specs.Wants.{securingWants}
 use Rattle.link.specs.Calls.{left, securingReply, secured}
 use Rattle.judging.specs.Replies.{Reply}
 use Rattle.judging.specs.Said.{saying}
 use Rattle.judging.specs.Verdicts.{Admitted}
 use Rattle.judging.specs.declared.verdict.Admission.{Admission}
 use Rattle.link.proofs.Carried.{carried-refusal}
 use Rattle.judging.proofs.Admitting.{admitted-obeys}
 use Rattle.link.proofs.Under.{securing-refused, securing-under}
 use borrow.Author.Needs.{needs}
-use Rattle.link.proofs.secure_by.Statement.{statement}
-use Rattle.link.proofs.secure_by.Tie as tie
+use Rattle.securing.proofs.secure_by.Statement.{statement}
+use Rattle.securing.proofs.secure_by.Tie as tie
 
 abbrev start : tie.After-admit-sending → tie.Start
 start c = c .before .before .before .before .before .before

@@ -4,17 +4,17 @@ use mathlib.Core.Path.{ap, _∙_, subst}
 use mathlib.Core.Bool.{true}
 use lib.ListN.{length}
 use Rattle.judging.specs.Wants.{checkingWants}
 use Rattle.link.specs.Calls.{left, comparison, checkingReply, checkedAs, checked}
 use Rattle.judging.specs.Replies.{Reply}
 use Rattle.judging.specs.Said.{saying}
 use Rattle.judging.specs.Verdicts.{Admitted}
 use Rattle.judging.specs.declared.verdict.Admission.{Admission}
 use Rattle.link.proofs.Carried.{carried-refusal}
 use Rattle.judging.proofs.Admitting.{admitted-obeys}
 use Rattle.link.proofs.Under.{checking-refused, checking-under}
 use borrow.Author.Needs.{needs}
-use Rattle.link.proofs.check_by.Statement.{statement}
-use Rattle.link.proofs.check_by.Tie as tie
+use Rattle.checking.proofs.check_by.Statement.{statement}
+use Rattle.checking.proofs.check_by.Tie as tie
 
 abbrev start : tie.After-admit-receiving → tie.Start
 start c = c .before .before .before .before .before .before

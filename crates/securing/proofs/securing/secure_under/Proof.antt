@@ -10,15 +10,15 @@ use Rattle.association.specs.Association.{associationOf, heldIn}
 use Rattle.association.specs.declared.held.Held.{Held}
 use Rattle.protection.specs.Protection.{securedFrame}
 use Rattle.judging.specs.Replies.{Reply}
 use Rattle.link.specs.Steps.{sendingReply}
 use Rattle.judging.specs.Verdicts.{Judgement, judgement, Judged}
 use Rattle.judging.specs.declared.verdict.Verdict.{Verdict}
 use Rattle.link.proofs.Carried.{carried-refusal, carried-grant}
 use Rattle.verdicts.proofs.Granting.{securable, frame-size}
 use Rattle.link.proofs.Under.{held-under, sending-judged}
 use borrow.Author.Needs.{needs}
-use Rattle.link.proofs.securing.secure_under.Statement.{statement}
-use Rattle.link.proofs.securing.secure_under.Tie as tie
+use Rattle.securing.proofs.securing.secure_under.Statement.{statement}
+use Rattle.securing.proofs.securing.secure_under.Tie as tie
 
 abbrev start : tie.After-judge-sending → tie.Start
 start c = c .before .before .before .before .before .before .before .before .before
