@@ -8,9 +8,10 @@ use borrow.Author.Tests.{eq-eqb, ne-eqb}
 use lib.ListN.{length}
 use Rattle.image.specs.Image.{validImage}
 use Rattle.judging.specs.Answers.{reported}
+use Rattle.lent.specs.Word.{word}
 use Rattle.link.specs.Calls.{Left, leaving}
 use Rattle.link.specs.declared.outcome.Outcome.{Outcome}
-use Rattle.link_c.specs.Interface.{word, packed, counted, Returned}
+use Rattle.link_c.specs.Interface.{packed, counted, Returned}
 
 -- `call` is the module's call as a function of the numbers
 module _ (call : List ℕ → Left) (image numbers output : List ℕ) where

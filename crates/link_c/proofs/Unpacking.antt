@@ -4,17 +4,22 @@
 use Prim.Native.Nat.{ℕ}
 use mathlib.Core.Bool.{cond}
 use mathlib.Core.List.{List, []}
-use native.Mathlib.Omega.{arith}
 use lib.Dec.{eqb}
 use lib.ListN.{length}
 use Rattle.image.specs.Image.{validImage}
+use Rattle.lent.proofs.Taken.{answer-taken, stores-taken, length-taken}
 use Rattle.link.specs.Calls.{Left, loaded, secured, checked}
 use Rattle.judging.specs.Said.{Said}
 use Rattle.link.proofs.Small.{Small, small-refused, small-either, loaded-small, secured-small, checked-small}
 use Rattle.link_c.specs.Interface.{counted, loadCall, secureCall, checkCall, Unpacked}
 
 unpacked : (x : Left) → Small x → Unpacked x
-unpacked x s = record { answer = omega arith; stores = omega (arith, s .few); length = omega (arith, s .short) }
+unpacked x s =
+    record {
+      answer = answer-taken (x .answer) (x .length) (x .stores) (s .short) (s .few);
+      stores = stores-taken (x .answer) (x .length) (x .stores) (s .short) (s .few);
+      length = length-taken (x .answer) (x .length) (x .stores) (s .short) (s .few);
+    }
 
 unpacked-counted : (image numbers output : List ℕ) (call : Left) → Small call → Unpacked (counted image numbers output call)
 unpacked-counted image numbers output call s =

@@ -1,7 +1,7 @@
 -- The module as C calls it: the one number that a call returns, and what it leaves of the image, the numbers and the output that it was lent.
 -- Each call is the one of link's specs/Calls on the lent numbers, if they are 32.
 -- Assumes nothing.
-use Prim.Native.Nat.{ℕ, _+_, _*_, _/_, _%_, _^_}
+use Prim.Native.Nat.{ℕ, _/_, _%_, _^_}
 use mathlib.Core.Path.{_≡_}
 use mathlib.Core.Bool.{not, cond}
 use mathlib.Core.List.{List, []}
@@ -10,12 +10,9 @@ use lib.ListN.{length}
 use Rattle.image.specs.Image.{validImage}
 use Rattle.link.specs.Calls.{Left, refused, loaded, secured, checked}
 use Rattle.judging.specs.Said.{Said, saying}
+use Rattle.lent.specs.Word.{word}
 
--- ---- the returned number: bits 0 to 31 hold the length of the result, 32 to 39 the stores, 40 to 47 the answer's number
-
--- The remainders keep every part in its bits whatever is reported. A call reports so little that they lose nothing: proofs/Unpacking
-abbrev pub word : ℕ → ℕ → ℕ → ℕ
-word answer length stores = answer * 2 ^ 40 + stores % 2 ^ 8 * 2 ^ 32 + length % 2 ^ 32
+-- ---- the returned number
 
 abbrev pub packed : Left → ℕ
 packed x = word (x .answer) (x .length) (x .stores)

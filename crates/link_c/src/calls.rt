@@ -1,8 +1,8 @@
 // Securing and checking over lists that the caller lends, by the engine that the tables are for.
-use crate::lent::hand_back;
-use crate::lent::numbers_in;
-use crate::lent::refuse_count;
-use crate::packing::pack;
+use lent::hand_back;
+use lent::numbers_in;
+use lent::pack;
+use lent::refuse_count;
 ghost use Rattle.engines.specs.Lent.{Lent};
 ghost use Rattle.link_c.specs.Interface.{Returned, told, secureCall, checkCall};
 

@@ -1,15 +1,14 @@
 // The link security module for C: include/xistalvo.h declares these functions. A slice passes as a pointer and a count of its elements. Each
-// function is the one of crate `link` (or the cut of crate `association`) over lists that the caller lends: nothing is kept between calls.
+// function is the one of crate `link`, `securing` or `checking` (or the cut of crate `numbers`) over lists that the caller lends: nothing is
+// kept between calls.
 mod calls;
-mod lent;
-mod packing;
 
 use calls::check_lent;
 use calls::secure_lent;
 use lent::hand_back;
 use lent::numbers_in;
+use lent::pack;
 use lent::refuse_count;
-use packing::pack;
 use word_tables::word_tables;
 ghost use mathlib.Core.List.{[]};
 ghost use mathlib.Core.Path.{_≡_};

@@ -1,8 +1,8 @@
 -- `pack` is right because each variant goes with its number of the paper's table.
 -- Assumes nothing.
 use borrow.Author.Needs.{needs}
-use Rattle.link_c.proofs.packing.pack.Statement.{statement}
-use Rattle.link_c.proofs.packing.pack.Tie as tie
+use Rattle.lent.proofs.packing.pack.Statement.{statement}
+use Rattle.lent.proofs.packing.pack.Tie as tie
 
 pub pack-spec : {M : Type 1} → statement M
 pack-spec =

@@ -2,8 +2,8 @@
 -- Assumes nothing.
 use mathlib.Core.Path.{sym, _∙_}
 use borrow.Author.Needs.{needs}
-use Rattle.link_c.proofs.lent.refuse_count.Statement.{statement}
-use Rattle.link_c.proofs.lent.refuse_count.Tie as tie
+use Rattle.lent.proofs.lent.refuse_count.Statement.{statement}
+use Rattle.lent.proofs.lent.refuse_count.Tie as tie
 
 returns : tie.Need-returns
 returns c = rw (sym (c .before .before .image-ok .ensures) ∙ c .before .if1 .taken) (c .pack .ensures)

@@ -8,8 +8,8 @@ use Rattle.octets.specs.Lists.{octet}
 use Rattle.octets.proofs.Parts.{tab-self}
 use Rattle.octets.proofs.Rules.{Filled, filled-none, filled-more, filled-all}
 use borrow.Author.Needs.{needs}
-use Rattle.link_c.proofs.lent.numbers_in.Statement.{statement}
-use Rattle.link_c.proofs.lent.numbers_in.Tie as tie
+use Rattle.lent.proofs.lent.numbers_in.Statement.{statement}
+use Rattle.lent.proofs.lent.numbers_in.Tie as tie
 
 abbrev Inv-loop : tie.InvT-loop
 Inv-loop lent last₀ i₀ last i = Filled (length lent) (octet lent) last i

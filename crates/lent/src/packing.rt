@@ -1,8 +1,8 @@
 // What a call reports, in one number: bits 0 to 31 hold the length, 32 to 39 the stores, and 40 to 47 the answer's number of the paper's table.
-use link::Answer;
+use judging::Answer;
 ghost use mathlib.Core.Path.{_≡_};
 ghost use Rattle.judging.specs.Answers.{reported};
-ghost use Rattle.link_c.specs.Interface.{word};
+ghost use Rattle.lent.specs.Word.{word};
 
 fn word(number: u8, length: usize, stores: u32) -> u64
     ensures { λ r. ⌜ r ≡ word number length stores ⌝ }
@@ -12,7 +12,7 @@ fn word(number: u8, length: usize, stores: u32) -> u64
         + (length as u64) % 4294967296
 }
 
-pub(crate) fn pack(answer: Answer) -> u64
+pub fn pack(answer: Answer) -> u64
     ensures { λ r. ⌜ r ≡ word (reported answer .number) (reported answer .length) (reported answer .stores) ⌝ }
 {
     match answer {

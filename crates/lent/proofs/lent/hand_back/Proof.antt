@@ -11,8 +11,8 @@ use Rattle.octets.specs.Lists.{octet}
 use Rattle.octets.proofs.Parts.{tab-self}
 use Rattle.octets.proofs.Rules.{Filled, filled-none, filled-more, filled-all}
 use borrow.Author.Needs.{needs}
-use Rattle.link_c.proofs.lent.hand_back.Statement.{statement}
-use Rattle.link_c.proofs.lent.hand_back.Tie as tie
+use Rattle.lent.proofs.lent.hand_back.Statement.{statement}
+use Rattle.lent.proofs.lent.hand_back.Tie as tie
 
 abbrev Inv-loop : tie.InvT-loop
 Inv-loop lent₀ last i₀ lent i = Filled 32 (octet last) lent i

@@ -1,15 +1,15 @@
 // Document 01, 'Managed numbers': the 32 numbers, between the list that the caller lends and the value that the module works on.
 use crate::packing::pack;
 use image::image_ok;
-use link::Answer;
+use judging::Answer;
 use numbers::Numbers;
 ghost use mathlib.Core.Path.{_≡_};
 ghost use mathlib.Core.Bool.{cond};
 ghost use lib.ListN.{length};
 ghost use Rattle.image.specs.Image.{validImage};
-ghost use Rattle.link_c.specs.Interface.{word};
+ghost use Rattle.lent.specs.Word.{word};
 
-pub(crate) fn numbers_in(lent: &[u32]) -> Numbers
+pub fn numbers_in(lent: &[u32]) -> Numbers
     requires { ⌜ length (now lent) ≡ 32 ⌝ }
     ensures { λ r. ⌜ r .last ≡ now (lent .entry) ⌝ }
 {
@@ -23,7 +23,7 @@ pub(crate) fn numbers_in(lent: &[u32]) -> Numbers
 }
 
 // Only a number that differs is stored, so a refused call, which hands the numbers back as they were, writes none.
-pub(crate) fn hand_back(numbers: Numbers, lent: &mut [u32])
+pub fn hand_back(numbers: Numbers, lent: &mut [u32])
     requires { ⌜ length (now lent) ≡ 32 ⌝ }
     ensures { λ _. ⌜ now (lent .exit) ≡ numbers .last ⌝ }
 {
@@ -38,7 +38,7 @@ pub(crate) fn hand_back(numbers: Numbers, lent: &mut [u32])
 }
 
 // The answer where the numbers are not 32: they agree with no image.
-pub(crate) fn refuse_count(image: &[u8]) -> u64
+pub fn refuse_count(image: &[u8]) -> u64
     ensures { λ r. ⌜ r ≡ word (cond (validImage (now (image .entry))) 2 1) 0 0 ⌝ }
 {
     if image_ok(image) {
