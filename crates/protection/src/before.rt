@@ -1,13 +1,13 @@
 // Document 01, 'Frames', and document 02, request 6: what the MAC covers before the data.
-use frame::mask_header;
 use kinds::Framing;
+use masking::mask_header;
 use octets::put_behind;
 ghost use mathlib.Core.Path.{_≡_};
 ghost use mathlib.Core.List.{_++_};
 ghost use Prim.Native.Nat.{_+_, _≤_};
 ghost use lib.ListN.{length};
 ghost use Rattle.kinds.specs.Kinds.{framed};
-ghost use Rattle.frame.specs.Masked.{masked};
+ghost use Rattle.masking.specs.Masked.{masked};
 ghost use Rattle.frame.specs.Parts.{headerOf, securityOf};
 ghost use Rattle.octets.specs.Output.{written};
 
