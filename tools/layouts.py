@@ -504,7 +504,7 @@ def ground():
     boxes = dict(GROUND)
     boxes["octets"] = (24, 0, 686, FIXED, "lists of octets, numbers, copying, and their laws")
     boxes["image"] = (24, 1, 560, NUMBER, "contents, the whole rule; with what it stands on")
-    boxes["association"] = (384, 2, 200, NUMBER, "numbers, search, entries")
+    boxes["association"] = (384, 2, 200, NUMBER, "search, entries, numbers")
     boxes["promises"] = (240, 4, 120, FIXED, "with the module")
     arrows = [
         ("salvage", "salvage_lines", 68), ("salvage_promises", "salvage_lines", 174), ("salvage_promises", "promises", 300),
@@ -551,44 +551,66 @@ def layers():
         "cmac": (24, 8, 112, MAC, "CMAC"),
         "gctr": (145, 8, 98, MAC, "counter mode"),
         "gcm": (145, 9, 199, MAC, "GCM: seal, open"),
-        "headers": (372, 1, 116, NAMES, "header fields"),
-        "check_field": (496, 1, 102, NAMES, "the CRC"),
-        "kinds": (372, 2, 180, NAMES, "a kind as a record"),
-        "frame": (372, 3, 130, NAMES, "parts, rules, mask"),
-        "marks": (606, 1, 104, NUMBER, "octet stores"),
-        "bodies": (522, 3, 188, NUMBER, "layouts, fields, rules"),
-        "image": (522, 4, 188, NUMBER, "contents, the whole rule"),
-        "association": (522, 5, 188, NUMBER, "numbers, search, entries"),
+        "headers": (372, 1, 234, NAMES, "header fields"),
+        "telecommand": (372, 2, 108, NAMES, "TC"),
+        "telemetry": (484, 2, 86, NAMES, "TM"),
+        "aos": (574, 2, 32, NAMES, "AOS"),
+        "check_field": (608, 2, 94, NAMES, "the CRC"),
+        "kinds": (372, 3, 234, NAMES, "a kind as a record"),
+        "frame": (372, 4, 130, NAMES, "parts, rules"),
+        "masking": (372, 5, 130, NAMES, "the header's mask"),
+        "marks": (616, 1, 94, NUMBER, "octet stores"),
+        "bodies": (522, 4, 188, NUMBER, "layouts, fields, rules"),
+        "image": (522, 5, 188, NUMBER, "contents, the whole rule"),
+        "numbers": (522, 6, 188, NUMBER, "the last of each entry"),
+        "association": (522, 7, 188, NUMBER, "search, entries"),
         "services": (24, 10, 320, DATA, "the two services, the security header"),
-        "protection": (24, 11, 566, DATA, "the secured frame"),
-        "judging": (24, 12, 566, DATA, "the tests of a call, in their order"),
-        "link": (24, 13, 566, DATA, "load, secure, check: judged, then carried out"),
-        "promises": (24, 14, 270, FREE, "theorems alone"),
-        "witnesses": (24, 15, 270, FREE, "that they are not empty"),
-        "link_c": (320, 14, 270, FREE, "the C interface"),
+        "protection": (24, 11, 686, DATA, "the secured frame: definitions, what the MAC covers"),
+        "sealing": (24, 12, 150, DATA, "it is made"),
+        "opening": (182, 12, 150, DATA, "it is read"),
+        "judging": (340, 12, 370, DATA, "the tests of a call, in their order"),
+        "verdicts": (24, 13, 340, DATA, "the tests under an entry"),
+        "admission": (372, 13, 92, DATA, "those before"),
+        "lent": (470, 13, 60, FREE, "for C"),
+        "link": (538, 13, 172, DATA, "the calls; load"),
+        "securing": (24, 14, 226, DATA, "secure, carried out"),
+        "checking": (258, 14, 226, DATA, "check, carried out"),
+        "promises": (538, 14, 172, FREE, "theorems alone"),
+        "link_c": (24, 15, 506, FREE, "the C interface"),
+        "witnesses": (538, 15, 172, FREE, "that they are not empty"),
     }
     programs = {
-        "link_cases": (7, "runs link"),
+        "link_cases": (7, "runs the calls"),
         "listing_cases": (9, "runs listing_text"),
         "salvage_cases": (8, "runs salvage's crates"),
         "cipher_vectors": (5, "runs cipher, cmac, gcm"),
         "cipher_bench": (4, "times cipher, cmac, gcm"),
-        "frame_cases": (3, "runs frame, kinds"),
+        "frame_cases": (3, "runs frame, kinds, masking"),
         "lines": (1, "lines of text for them"),
     }
     arrows = [
-        ("witnesses", "promises", 159), ("promises", "link", 159), ("link_c", "link", 455), ("link", "judging", 307), ("judging", "protection", 307),
-        ("protection", "services", 184), ("protection", "frame", 437), ("services", "cmac", 80), ("services", "gcm", 244),
-        ("association", "image", 616), ("image", "bodies", 616), ("bodies", "kinds", 537),
-        ("bodies", "marks", 638), ("frame", "kinds", 437), ("kinds", "headers", 437), ("gcm", "gctr", 194), ("gcm", "ghash", 298),
+        ("witnesses", "promises", 624), ("promises", "link", 624), ("link_c", "securing", 137), ("link_c", "checking", 370), ("link_c", "lent", 505),
+        ("securing", "verdicts", 137), ("checking", "verdicts", 310), ("checking", "admission", 420), ("link", "judging", 624),
+        ("lent", "judging", 500), ("admission", "judging", 417), ("verdicts", "judging", 352), ("verdicts", "sealing", 99),
+        ("verdicts", "opening", 257), ("judging", "protection", 525), ("sealing", "protection", 99), ("opening", "protection", 257),
+        ("protection", "services", 184), ("protection", "masking", 437), ("services", "cmac", 80), ("services", "gcm", 244),
+        ("association", "numbers", 616), ("numbers", "image", 616), ("image", "bodies", 616), ("bodies", "kinds", 555),
+        ("bodies", "marks", 706), ("masking", "frame", 437), ("frame", "kinds", 437), ("kinds", "telecommand", 418), ("kinds", "telemetry", 527),
+        ("kinds", "aos", 590), ("telecommand", "headers", 418), ("telemetry", "headers", 527), ("aos", "headers", 590), ("gcm", "gctr", 194),
+        ("gcm", "ghash", 298),
         ("gctr", "engines", 170), ("gctr", "block", 219), ("ghash", "block", 298), ("cmac", "engines", 80), ("engines", "word_cipher", 109),
         ("word_cipher", "word_tables", 109), ("word_tables", "columns", 109), ("columns", "cipher", 109), ("cipher", "key_schedule", 80),
         ("key_schedule", "substitution", 80), ("substitution", "octets", 80), ("block", "octets", 244), ("headers", "octets", 437),
-        ("marks", "octets", 638), ("check_field", "octets", 546),
+        ("marks", "octets", 638), ("check_field", "octets", 611),
+    ]
+    # those that step aside below the box above: from there, and to there
+    bent = [
+        ("services", "association", 320, 616), ("frame", "check_field", 490, 612), ("securing", "admission", 240, 390), ("securing", "link", 240, 560),
+        ("checking", "link", 476, 560),
     ]
     needed = stands_on()
     assert set(needed) == set(boxes) | set(programs) | set(GROUND), "crates.txt has other crates"
-    drawn = arrows + [("services", "association", 320), ("frame", "check_field", 490)]
+    drawn = arrows + [(above, below, x) for above, below, x, _ in bent]
     for name in boxes:
         assert needed[name] <= everything_below(name, drawn), f"an arrow is missing: {name}"
         direct = {below for above, below, _ in drawn if above == name}
@@ -604,10 +626,9 @@ def layers():
         p.box(x, top(row), width, high, fill, [name, words], sizes=(14, 12.5))
     for above, below, x in arrows:
         p.arrow([(x, top(boxes[above][1]) + high), (x, top(boxes[below][1]) - 1)])
-    bend = top(boxes["services"][1]) + high + 12
-    p.arrow([(320, bend - 12), (320, bend), (616, bend), (616, top(boxes["association"][1]) - 1)])
-    bend = top(boxes["frame"][1]) + high + 12
-    p.arrow([(490, bend - 12), (490, bend), (574, bend), (574, top(boxes["check_field"][1]) - 1)])
+    for above, below, x, to in bent:
+        foot = top(boxes[above][1]) + high
+        p.arrow([(x, foot), (x, foot + 12), (to, foot + 12), (to, top(boxes[below][1]) - 1)])
     lab = "Dashed frame: with octets, what goes to the partner lab by itself. Nothing in it names a frame."
     p.text(24, top(0) + high + 24, lab, 12.5, "start", colour="#8a1c12")
     p.text(744, 58, "Aside: programs", 13, "start", "bold")
