@@ -564,8 +564,9 @@ def layers():
         "image": (522, 5, 188, NUMBER, "contents, the whole rule"),
         "numbers": (522, 6, 188, NUMBER, "the last of each entry"),
         "association": (522, 7, 188, NUMBER, "search, entries"),
-        "services": (24, 10, 320, DATA, "the two services, the security header"),
-        "protection": (24, 11, 686, DATA, "the secured frame: definitions, what the MAC covers"),
+        "services": (24, 10, 400, DATA, "the two services"),
+        "security_header": (24, 11, 320, DATA, "its octets, and the number in it"),
+        "protection": (352, 11, 358, DATA, "the secured frame, what the MAC covers"),
         "sealing": (24, 12, 150, DATA, "it is made"),
         "opening": (182, 12, 150, DATA, "it is read"),
         "judging": (340, 12, 370, DATA, "the tests of a call, in their order"),
@@ -592,8 +593,8 @@ def layers():
         ("witnesses", "promises", 624), ("promises", "link", 624), ("link_c", "securing", 137), ("link_c", "checking", 370), ("link_c", "lent", 505),
         ("securing", "verdicts", 137), ("checking", "verdicts", 310), ("checking", "admission", 420), ("link", "judging", 624),
         ("lent", "judging", 500), ("admission", "judging", 417), ("verdicts", "judging", 352), ("verdicts", "sealing", 99),
-        ("verdicts", "opening", 257), ("judging", "protection", 525), ("sealing", "protection", 99), ("opening", "protection", 257),
-        ("protection", "services", 184), ("protection", "masking", 437), ("services", "cmac", 80), ("services", "gcm", 244),
+        ("verdicts", "opening", 257), ("judging", "protection", 525), ("sealing", "security_header", 99),
+        ("opening", "security_header", 257), ("security_header", "services", 184), ("protection", "services", 388), ("protection", "masking", 437), ("services", "cmac", 80), ("services", "gcm", 244),
         ("association", "numbers", 616), ("numbers", "image", 616), ("image", "bodies", 616), ("bodies", "kinds", 555),
         ("bodies", "marks", 706), ("masking", "frame", 437), ("frame", "kinds", 437), ("kinds", "telecommand", 418), ("kinds", "telemetry", 527),
         ("kinds", "aos", 590), ("telecommand", "headers", 418), ("telemetry", "headers", 527), ("aos", "headers", 590), ("gcm", "gctr", 194),
@@ -606,7 +607,7 @@ def layers():
     # those that step aside below the box above: from there, and to there
     bent = [
         ("services", "association", 320, 616), ("frame", "check_field", 490, 612), ("securing", "admission", 240, 390), ("securing", "link", 240, 560),
-        ("checking", "link", 476, 560),
+        ("checking", "link", 476, 560), ("sealing", "protection", 160, 365), ("opening", "protection", 320, 365),
     ]
     needed = stands_on()
     assert set(needed) == set(boxes) | set(programs) | set(GROUND), "crates.txt has other crates"

@@ -9,7 +9,7 @@ use opening::Opening;
 use opening::clear_length;
 use opening::mac_right;
 use opening::number_of;
-use services::security_length;
+use security_header::security_length;
 ghost use mathlib.Core.Path.{_≡_};
 ghost use mathlib.Core.Bool.{true};
 ghost use Rattle.kinds.specs.Kinds.{framed};

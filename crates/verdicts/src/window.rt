@@ -1,5 +1,5 @@
 // Document 01, 'Managed numbers': the window's test of a number that came in.
-use services::Sequence;
+use security_header::Sequence;
 ghost use mathlib.Core.Path.{_≡_};
 ghost use Prim.Native.Nat.{_+_, _*_};
 ghost use Rattle.numbers.specs.Numbers.{accepts};

@@ -2,9 +2,9 @@
 -- Assumes nothing.
 use mathlib.Core.Path.{refl}
 use lib.Dec.{lit≤}
 use Rattle.services.proofs.Chosen.{encrypts, signs}
-use Rattle.services.proofs.sequence.security_length.Statement.{statement}
-use Rattle.services.proofs.sequence.security_length.Tie as tie
+use Rattle.security_header.proofs.sequence.security_length.Statement.{statement}
+use Rattle.security_header.proofs.sequence.security_length.Tie as tie
 
 returns : tie.Need-returns
 returns c = rw (encrypts _ (c .if1 .taken)) (refl, lit≤ tt, lit≤ tt)

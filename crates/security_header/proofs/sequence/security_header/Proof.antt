@@ -1,9 +1,9 @@
 -- `security_header` is right because the number's four octets end where the service's header does, and those between are 0.
 -- Assumes nothing.
-use Rattle.services.proofs.Fields.{header-made}
+use Rattle.security_header.proofs.Fields.{header-made}
 use borrow.Author.Needs.{needs}
-use Rattle.services.proofs.sequence.security_header.Statement.{statement}
-use Rattle.services.proofs.sequence.security_header.Tie as tie
+use Rattle.security_header.proofs.sequence.security_header.Statement.{statement}
+use Rattle.security_header.proofs.sequence.security_header.Tie as tie
 
 returns : tie.Need-returns
 returns c =

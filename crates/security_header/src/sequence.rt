@@ -1,13 +1,11 @@
 // Document 01, 'Frames': the security header, and the sequence number in it.
-use octets::copy_at;
 use octets::four_at;
 ghost use mathlib.Core.Path.{_≡_};
 ghost use mathlib.Core.List.{_++_};
 ghost use Prim.Native.Nat.{_+_, _-_, _*_, _≤_};
 ghost use lib.ListN.{replicate};
-ghost use Rattle.octets.specs.Lists.{part};
 ghost use Rattle.octets.specs.Numbers.{numberAt, bytes};
 ghost use Rattle.services.specs.Services.{service};
 
 // A number of 96 bits: `above` counts the whole multiples of 2^32 in it.
 pub struct Sequence {
@@ -59,13 +57,4 @@ pub fn number_in(number: u8, security: &[u8]) -> Sequence
         );
     }
     join(0, 0, four_at(security, 2))
-}
-
-// The field of a security header of service 2, as GCM takes it.
-pub(crate) fn iv_in(security: &[u8]) -> [u8; 12]
-    ensures { λ r. ⌜ r ≡ part 2 12 (now (security .entry)) ⌝ }
-{
-    let mut iv: [u8; 12] = [0; 12];
-    copy_at(security, 2, &mut iv);
-    iv
 }

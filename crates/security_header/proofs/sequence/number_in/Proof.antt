@@ -1,11 +1,11 @@
 -- `number_in` is right because twelve octets are three words of four, and four octets are one.
 -- Assumes nothing.
 use native.Mathlib.Omega.{arith}
 use Rattle.services.proofs.Chosen.{encrypts, signs}
-use Rattle.services.proofs.Fields.{three-words}
+use Rattle.security_header.proofs.Fields.{three-words}
 use borrow.Author.Needs.{needs}
-use Rattle.services.proofs.sequence.number_in.Statement.{statement}
-use Rattle.services.proofs.sequence.number_in.Tie as tie
+use Rattle.security_header.proofs.sequence.number_in.Statement.{statement}
+use Rattle.security_header.proofs.sequence.number_in.Tie as tie
 
 returns : tie.Need-returns
 returns c =
