@@ -601,28 +601,27 @@ GROUND = {
 }
 
 
-def ground():
-    p = Picture("ground", "The crates of the ground's programs")
+# The crates of management commands.
+MANAGEMENT = {
+    "command_form": (384, 1, 326, DATA, "the form of a command, its channels"),
+    "procedures": (204, 2, 506, DATA, "what a command may call, a record each"),
+    "commands": (204, 3, 506, DATA, "the command call: decided, then carried out"),
+    "command_promises": (24, 4, 340, FREE, "theorems alone"),
+}
+
+
+def beside(p, own, module, arrows, bent):
+    """Crates that stand on those of the picture of the module, which are drawn with what they need of it."""
     p.text(24, 26, p.title, 16, "start", "bold")
-    p.note(46, "Filled boxes stand in the picture of the module. An arrow that follows from others is left out.", 24)
-    high, pitch, most = 48, 76, 5
-    boxes = dict(GROUND)
-    boxes["octets"] = (24, 0, 686, FIXED, "lists of octets, numbers, copying, and their laws")
-    boxes["image"] = (24, 1, 560, NUMBER, "contents, the whole rule; with what it stands on")
-    boxes["association"] = (384, 2, 200, NUMBER, "numbers, search, entries")
-    boxes["promises"] = (240, 4, 120, FIXED, "with the module")
-    arrows = [
-        ("salvage", "salvage_lines", 68), ("salvage_promises", "salvage_lines", 174), ("salvage_promises", "promises", 300),
-        ("salvage_lines", "salvage_image", 124), ("salvage_image", "salvage_entries", 124), ("salvage_entries", "image", 124),
-        ("listing", "listing_text", 484), ("listing_text", "association", 484), ("listing_text", "writing", 680), ("association", "image", 484),
-        ("image", "octets", 304), ("writing", "octets", 660),
-    ]
+    p.note(46, "Where a box stands in the picture of the module, what it stands on is there. An arrow that follows from others is left out.", 24)
+    high, pitch, boxes = 48, 76, {**own, **module}
+    most = max(row for _, row, _, _, _ in boxes.values())
     needed = stands_on()
-    drawn = arrows + [("salvage_image", "writing", 210)]
-    for name in GROUND:
+    drawn = arrows + [(above, below, x) for above, below, x, _ in bent]
+    for name in own:
         below = everything_below(name, drawn)
-        for module in sorted(needed, key=list(needed).index, reverse=True):
-            below |= needed[module] if module in below - set(GROUND) else set()
+        for crate in sorted(needed, key=list(needed).index, reverse=True):
+            below |= needed[crate] if crate in below - set(own) else set()
         assert needed[name] <= below, f"an arrow is missing: {name}"
 
     def top(row):
@@ -632,16 +631,48 @@ def ground():
         p.box(x, top(row), width, high, fill, [name, words], sizes=(14, 12.5))
     for above, below, x in arrows:
         p.arrow([(x, top(boxes[above][1]) + high), (x, top(boxes[below][1]) - 1)])
-    bend = top(3) + high + 12
-    p.arrow([(210, bend - 12), (210, bend), (630, bend), (630, top(1) - 1)])
+    for above, below, x, to in bent:
+        foot = top(boxes[above][1]) + high
+        p.arrow([(x, foot), (x, foot + 12), (to, foot + 12), (to, top(boxes[below][1]) - 1)])
     return p
+
+
+def ground():
+    module = {
+        "octets": (24, 0, 686, FIXED, "lists of octets, numbers, copying, and their laws"),
+        "image": (24, 1, 560, NUMBER, "contents, the whole rule"),
+        "association": (384, 2, 200, NUMBER, "search, entries"),
+        "promises": (240, 4, 120, FIXED, "theorems alone"),
+    }
+    arrows = [
+        ("salvage", "salvage_lines", 68), ("salvage_promises", "salvage_lines", 174), ("salvage_promises", "promises", 300),
+        ("salvage_lines", "salvage_image", 124), ("salvage_image", "salvage_entries", 124), ("salvage_entries", "image", 124),
+        ("listing", "listing_text", 484), ("listing_text", "association", 484), ("listing_text", "writing", 680), ("association", "image", 484),
+        ("image", "octets", 304), ("writing", "octets", 660),
+    ]
+    return beside(Picture("ground", "The crates of the ground's programs"), GROUND, module, arrows, [("salvage_image", "writing", 210, 630)])
+
+
+def management():
+    module = {
+        "link": (24, 2, 172, DATA, "the calls; load"),
+        "verdicts": (204, 1, 172, DATA, "tests under an entry"),
+        "association": (384, 0, 326, NUMBER, "search, entries"),
+        "promises": (24, 3, 172, FREE, "theorems alone"),
+        "lent_calls": (372, 4, 338, FREE, "the calls over what C lends"),
+    }
+    arrows = [
+        ("command_promises", "promises", 110), ("command_promises", "commands", 284), ("lent_calls", "commands", 541), ("commands", "procedures", 457), ("procedures", "verdicts", 290),
+        ("procedures", "command_form", 547), ("command_form", "association", 547), ("promises", "link", 80),
+    ]
+    return beside(Picture("management", "The crates of management commands"), MANAGEMENT, module, arrows, [("commands", "link", 214, 160)])
 
 
 def layers():
     p = Picture("layers", "The crates: each stands on those that its arrows point to")
     p.text(24, 26, p.title, 16, "start", "bold")
     p.note(46, "An arrow that follows from others is left out.", 24)
-    high, pitch, most = 48, 76, 15
+    high, pitch, most = 48, 76, 16
     boxes = {
         "octets": (24, 0, 686, FIXED, "lists of octets, numbers, copying, and their laws"),
         "substitution": (24, 1, 112, MAC, "S-box"),
@@ -656,52 +687,70 @@ def layers():
         "cmac": (24, 8, 112, MAC, "CMAC"),
         "gctr": (145, 8, 98, MAC, "counter mode"),
         "gcm": (145, 9, 199, MAC, "GCM: seal, open"),
-        "headers": (372, 1, 116, NAMES, "header fields"),
-        "check_field": (496, 1, 102, NAMES, "the CRC"),
-        "kinds": (372, 2, 180, NAMES, "a kind as a record"),
-        "frame": (372, 3, 130, NAMES, "parts, rules, mask"),
-        "marks": (606, 1, 104, NUMBER, "octet stores"),
-        "bodies": (522, 3, 188, NUMBER, "layouts, fields, rules"),
-        "image": (522, 4, 188, NUMBER, "contents, the whole rule"),
-        "association": (522, 5, 188, NUMBER, "numbers, search, entries"),
-        "services": (24, 10, 320, DATA, "the two services, the security header"),
-        "protection": (24, 11, 566, DATA, "the secured frame"),
-        "judging": (24, 12, 566, DATA, "the tests of a call, in their order"),
-        "link": (24, 13, 280, DATA, "load, secure, check: carried out"),
-        "procedures": (320, 13, 270, DATA, "what a command may call"),
-        "command_form": (566, 9, 150, DATA, "form of a command"),
-        "commands": (205, 14, 385, DATA, "the command call: decided, then carried out"),
-        "promises": (24, 14, 165, FREE, "theorems alone"),
-        "witnesses": (24, 15, 100, FREE, "not empty"),
-        "command_promises": (134, 15, 170, FREE, "theorems on commands"),
-        "link_c": (320, 15, 270, FREE, "the C interface"),
+        "headers": (372, 1, 234, NAMES, "header fields"),
+        "telecommand": (372, 2, 108, NAMES, "TC"),
+        "telemetry": (484, 2, 86, NAMES, "TM"),
+        "aos": (574, 2, 32, NAMES, "AOS"),
+        "check_field": (608, 2, 94, NAMES, "the CRC"),
+        "kinds": (372, 3, 234, NAMES, "a kind as a record"),
+        "frame": (372, 4, 130, NAMES, "parts, rules"),
+        "masking": (372, 5, 130, NAMES, "the header's mask"),
+        "marks": (616, 1, 94, NUMBER, "octet stores"),
+        "bodies": (522, 4, 188, NUMBER, "layouts, fields, rules"),
+        "image": (522, 5, 188, NUMBER, "contents, the whole rule"),
+        "numbers": (522, 6, 188, NUMBER, "the last of each entry"),
+        "association": (522, 7, 188, NUMBER, "search, entries"),
+        "services": (24, 10, 400, DATA, "the two services"),
+        "security_header": (24, 11, 320, DATA, "its octets, and the number in it"),
+        "protection": (352, 11, 358, DATA, "the secured frame, what the MAC covers"),
+        "sealing": (24, 12, 150, DATA, "it is made"),
+        "opening": (182, 12, 150, DATA, "it is read"),
+        "judging": (340, 12, 370, DATA, "the tests of a call, in their order"),
+        "verdicts": (24, 13, 340, DATA, "the tests under an entry"),
+        "admission": (372, 13, 92, DATA, "those before"),
+        "lent": (470, 13, 60, FREE, "for C"),
+        "link": (538, 13, 172, DATA, "the calls; load"),
+        "securing": (24, 14, 226, DATA, "secure, carried out"),
+        "checking": (258, 14, 226, DATA, "check, carried out"),
+        "promises": (538, 14, 172, FREE, "theorems alone"),
+        "lent_calls": (24, 15, 506, FREE, "the calls over what C lends"),
+        "link_c": (24, 16, 506, FREE, "the C interface"),
+        "witnesses": (538, 15, 172, FREE, "that they are not empty"),
     }
     programs = {
-        "link_cases": (7, "runs link"),
+        "link_cases": (7, "runs the calls"),
         "listing_cases": (9, "runs listing_text"),
         "salvage_cases": (8, "runs salvage's crates"),
         "cipher_vectors": (5, "runs cipher, cmac, gcm"),
         "cipher_bench": (4, "times cipher, cmac, gcm"),
-        "frame_cases": (3, "runs frame, kinds"),
+        "frame_cases": (3, "runs frame, kinds, masking"),
         "lines": (1, "lines of text for them"),
     }
     arrows = [
-        ("witnesses", "promises", 74), ("command_promises", "promises", 161), ("command_promises", "commands", 254), ("link_c", "commands", 455),
-        ("promises", "link", 106), ("commands", "link", 254), ("commands", "procedures", 455), ("link", "judging", 164),
-        ("procedures", "judging", 455), ("judging", "protection", 307), ("command_form", "association", 641),
-        ("protection", "services", 184), ("protection", "frame", 437), ("services", "cmac", 80), ("services", "gcm", 244),
-        ("association", "image", 616), ("image", "bodies", 616), ("bodies", "kinds", 537),
-        ("bodies", "marks", 638), ("frame", "kinds", 437), ("kinds", "headers", 437), ("gcm", "gctr", 194), ("gcm", "ghash", 298),
+        ("witnesses", "promises", 624), ("promises", "link", 624), ("link_c", "lent_calls", 277), ("lent_calls", "securing", 137), ("lent_calls", "checking", 370), ("lent_calls", "lent", 505),
+        ("securing", "verdicts", 137), ("checking", "verdicts", 310), ("checking", "admission", 420), ("link", "judging", 624),
+        ("lent", "judging", 500), ("admission", "judging", 417), ("verdicts", "judging", 352), ("verdicts", "sealing", 99),
+        ("verdicts", "opening", 257), ("judging", "protection", 525), ("sealing", "security_header", 99),
+        ("opening", "security_header", 257), ("security_header", "services", 184), ("protection", "services", 388), ("protection", "masking", 437), ("services", "cmac", 80), ("services", "gcm", 244),
+        ("association", "numbers", 616), ("numbers", "image", 616), ("image", "bodies", 616), ("bodies", "kinds", 555),
+        ("bodies", "marks", 706), ("masking", "frame", 437), ("frame", "kinds", 437), ("kinds", "telecommand", 418), ("kinds", "telemetry", 527),
+        ("kinds", "aos", 590), ("telecommand", "headers", 418), ("telemetry", "headers", 527), ("aos", "headers", 590), ("gcm", "gctr", 194),
+        ("gcm", "ghash", 298),
         ("gctr", "engines", 170), ("gctr", "block", 219), ("ghash", "block", 298), ("cmac", "engines", 80), ("engines", "word_cipher", 109),
         ("word_cipher", "word_tables", 109), ("word_tables", "columns", 109), ("columns", "cipher", 109), ("cipher", "key_schedule", 80),
         ("key_schedule", "substitution", 80), ("substitution", "octets", 80), ("block", "octets", 244), ("headers", "octets", 437),
-        ("marks", "octets", 638), ("check_field", "octets", 546),
+        ("marks", "octets", 638), ("check_field", "octets", 611),
+    ]
+    # those that step aside below the box above: from there, and to there
+    bent = [
+        ("services", "association", 320, 616), ("frame", "check_field", 490, 612), ("securing", "admission", 240, 390), ("securing", "link", 240, 560),
+        ("checking", "link", 476, 560), ("sealing", "protection", 160, 365), ("opening", "protection", 320, 365),
     ]
     needed = stands_on()
-    assert set(needed) == set(boxes) | set(programs) | set(GROUND), "crates.txt has other crates"
-    drawn = arrows + [("services", "association", 320), ("frame", "check_field", 490), ("procedures", "command_form", 590)]
+    assert set(needed) == set(boxes) | set(programs) | set(GROUND) | set(MANAGEMENT), "crates.txt has other crates"
+    drawn = arrows + [(above, below, x) for above, below, x, _ in bent]
     for name in boxes:
-        assert needed[name] <= everything_below(name, drawn), f"an arrow is missing: {name}"
+        assert needed[name] - set(MANAGEMENT) <= everything_below(name, drawn), f"an arrow is missing: {name}"
         direct = {below for above, below, _ in drawn if above == name}
         assert direct <= needed[name], f"an arrow too many: {name}"
 
@@ -715,12 +764,9 @@ def layers():
         p.box(x, top(row), width, high, fill, [name, words], sizes=(14, 12.5))
     for above, below, x in arrows:
         p.arrow([(x, top(boxes[above][1]) + high), (x, top(boxes[below][1]) - 1)])
-    bend = top(boxes["services"][1]) + high + 12
-    p.arrow([(320, bend - 12), (320, bend), (544, bend), (544, top(boxes["association"][1]) - 1)])
-    middle = top(boxes["procedures"][1]) + high / 2
-    p.arrow([(590, middle), (641, middle), (641, top(boxes["command_form"][1]) - 1)])
-    bend = top(boxes["frame"][1]) + high + 12
-    p.arrow([(490, bend - 12), (490, bend), (574, bend), (574, top(boxes["check_field"][1]) - 1)])
+    for above, below, x, to in bent:
+        foot = top(boxes[above][1]) + high
+        p.arrow([(x, foot), (x, foot + 12), (to, foot + 12), (to, top(boxes[below][1]) - 1)])
     lab = "Dashed frame: with octets, what goes to the partner lab by itself. Nothing in it names a frame."
     p.text(24, top(0) + high + 24, lab, 12.5, "start", colour="#8a1c12")
     p.text(744, 58, "Aside: programs", 13, "start", "bold")
@@ -732,7 +778,7 @@ def layers():
 
 
 PICTURES = [tc_header, tc_segment_header, tm_header, aos_header, lambda: secured(1), lambda: secured(2), check_field, image, body]
-PICTURES += [commands, channel_names, states, packed_result, layers, ground]
+PICTURES += [commands, channel_names, states, packed_result, layers, management, ground]
 
 
 def main(checking):

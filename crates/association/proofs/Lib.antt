@@ -1,5 +1,1 @@
-pub mod AfterStores
-pub mod Agreement
 pub mod Finding
-pub mod LoadedNumbers
-pub mod Loading

@@ -6,7 +6,7 @@ use mathlib.Core.List.{List, []}
 use Rattle.octets.specs.Lists.{part}
 use Rattle.bodies.specs.Body.{serviceOf, kindIn, directionOf, stateOf, windowOf, maskOf}
 use Rattle.image.specs.Image.{versionOf, spiOf, bodyOf, keyOf, markIn}
-use Rattle.association.specs.Numbers.{numberOf}
+use Rattle.numbers.specs.Numbers.{numberOf}
 use Rattle.association.specs.Search.{entryFor}
 use Rattle.association.specs.declared.entry.Entry.{Entry}
 use Rattle.association.specs.declared.held.Held.{Held}

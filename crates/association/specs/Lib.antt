@@ -1,4 +1,2 @@
 pub mod Association
-pub mod Numbers
 pub mod Search
-pub mod Stores

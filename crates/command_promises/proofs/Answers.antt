@@ -16,7 +16,7 @@ use Rattle.bodies.specs.Body.{stateOf}
 use Rattle.image.specs.Image.{versionOf, countOf, spiOf, bodyOf, validImage}
 use Rattle.image.proofs.ValidImages.{valid, spi-once}
 use Rattle.association.specs.Association.{indexOf}
-use Rattle.association.specs.Numbers.{agrees}
+use Rattle.numbers.specs.Numbers.{agrees}
 use Rattle.association.specs.Search.{withSpi}
 use Rattle.association.specs.declared.search.Found.{Found}
 use Rattle.association.specs.declared.search.Found.the-variants as found

@@ -18,7 +18,7 @@ use Rattle.image.specs.Image.{validImage, markIn}
 use Rattle.image.proofs.ValidImages.{valid}
 use Rattle.marks.specs.Stores.{stored}
 use Rattle.marks.specs.declared.plans.Store.{Store}
-use Rattle.association.proofs.LoadedNumbers.{agreed}
+use Rattle.numbers.proofs.LoadedNumbers.{agreed}
 use Rattle.judging.specs.Replies.{Reply}
 use Rattle.link.specs.Calls.{done, left, cut, loaded}
 use Rattle.link.proofs.Leaving.{left-answer, left-done, left-refused, cut-done, cut-refused}

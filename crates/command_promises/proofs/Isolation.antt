@@ -11,8 +11,8 @@ use lib.ListN.{length}
 use Rattle.bodies.specs.Body.{markOf}
 use Rattle.image.specs.Image.{countOf, bodyOf, markIn, validImage}
 use Rattle.image.proofs.ValidImages.{valid}
-use Rattle.association.specs.Numbers.{agrees}
-use Rattle.association.specs.Stores.{storesFor}
+use Rattle.numbers.specs.Numbers.{agrees}
+use Rattle.numbers.specs.Stores.{storesFor}
 use Rattle.association.specs.Search.{withSpi}
 use Rattle.association.specs.declared.search.Found.{Found}
 use Rattle.association.specs.declared.search.Found.the-variants as found

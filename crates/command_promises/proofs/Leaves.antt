@@ -15,12 +15,12 @@ use Rattle.marks.specs.declared.plans.Store.{Store}
 use Rattle.bodies.specs.Body.{stateOf}
 use Rattle.image.specs.Image.{versionOf, bodyAt, bodyOf, markIn, validImage}
 use Rattle.image.proofs.ValidImages.{valid}
-use Rattle.association.specs.Stores.{storesFor, afterStores}
+use Rattle.numbers.specs.Stores.{storesFor, afterStores}
 use Rattle.association.specs.Search.{withSpi}
 use Rattle.association.specs.declared.search.Found.{Found}
 use Rattle.association.specs.declared.search.Found.the-variants as found
-use Rattle.association.proofs.AfterStores.{Raised, raised, after-all}
-use Rattle.association.proofs.LoadedNumbers.{agreed}
+use Rattle.numbers.proofs.AfterStores.{Raised, raised, after-all}
+use Rattle.numbers.proofs.LoadedNumbers.{agreed}
 use Rattle.judging.specs.Replies.{Reply}
 use Rattle.link.specs.Calls as link
 use Rattle.link.proofs.Leaving.{left-answer, left-done, cut-done}

@@ -16,8 +16,8 @@ use Rattle.kinds.specs.Kinds.{named}
 use Rattle.bodies.specs.Body.{kindIn, stateOf, windowOf, mostWindow}
 use Rattle.bodies.proofs.ValidBodies as bodies
 use Rattle.image.specs.Image.{versionOf, bodyOf}
-use Rattle.association.specs.Numbers.{accepts}
-use Rattle.association.proofs.Agreement.{accepted}
+use Rattle.numbers.specs.Numbers.{accepts}
+use Rattle.numbers.proofs.Agreement.{accepted}
 use Rattle.command_form.specs.Channels.{namesOne, channelCount, channelNamed, channelsRight}
 use Rattle.command_form.specs.Form.{frontLength, valueOf, keyAsked, numberBehindKey, windowAsked, numberAsked}
 use Rattle.procedures.specs.Procedures.{Procedure, procedureIs, procedures, withTag, mostRise}

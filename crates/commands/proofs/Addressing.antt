@@ -7,7 +7,7 @@ use mathlib.Core.Bool.{true, false, not}
 use mathlib.Core.List.{List, _++_}
 use native.Mathlib.Omega.{arith}
 use Rattle.image.specs.Image.{validImage}
-use Rattle.association.specs.Numbers.{agrees}
+use Rattle.numbers.specs.Numbers.{agrees}
 use Rattle.association.specs.declared.search.Found.the-variants as found
 use Rattle.judging.specs.Answers.{Test, first, refusal}
 use Rattle.judging.specs.Verdicts.{Refuses}

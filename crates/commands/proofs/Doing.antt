@@ -18,10 +18,10 @@ use Rattle.marks.specs.declared.plans.Store.{Store}
 use Rattle.bodies.specs.Body.{stateOf, windowOf, unkeyed, keyed, operational, windowFits}
 use Rattle.bodies.specs.Layout.{statePlace, windowPlace}
 use Rattle.image.specs.Image.{versionOf, countOf, bodyAt, bodyOf, markIn, validImage}
-use Rattle.association.specs.Numbers.{numberOf, agrees}
-use Rattle.association.specs.Stores.{storesFor, afterStores}
-use Rattle.association.proofs.AfterStores.{raised, after-all}
-use Rattle.association.proofs.Agreement.{Accepted, accepted, stores-most, still-agrees}
+use Rattle.numbers.specs.Numbers.{numberOf, agrees}
+use Rattle.numbers.specs.Stores.{storesFor, afterStores}
+use Rattle.numbers.proofs.AfterStores.{raised, after-all}
+use Rattle.numbers.proofs.Agreement.{Accepted, accepted, stores-most, still-agrees}
 use Rattle.link.proofs.Carried.{counted}
 use Rattle.command_form.specs.Channels.{channelsRight}
 use Rattle.command_form.specs.Form.{spiLength, numberAsked}

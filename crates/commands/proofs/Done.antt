@@ -15,7 +15,7 @@ use Rattle.octets.specs.Lists.{Octets}
 use Rattle.image.specs.Image.{versionOf, countOf, spiOf, bodyOf, validImage}
 use Rattle.image.proofs.ValidImages.{Valid, valid, spi-once}
 use Rattle.association.specs.Association.{indexOf}
-use Rattle.association.specs.Numbers.{numberOf, agrees}
+use Rattle.numbers.specs.Numbers.{numberOf, agrees}
 use Rattle.association.specs.Search.{withSpi}
 use Rattle.association.specs.declared.search.Found.{Found}
 use Rattle.association.specs.declared.search.Found.the-variants as found

@@ -27,9 +27,9 @@ use Rattle.image.specs.Image.{versionOf, countOf, layout, bodyAt, bodyOf, markA
 use Rattle.image.proofs.KeptParts.{kept-count}
 use Rattle.image.proofs.Places.{octet-body, body-inside}
 use Rattle.image.proofs.ValidImages.{valid, valid-laid, laid-out}
-use Rattle.association.specs.Numbers.{agrees}
-use Rattle.association.proofs.AfterStores.{Raised}
-use Rattle.association.proofs.LoadedNumbers.{agreed, agreeing}
+use Rattle.numbers.specs.Numbers.{agrees}
+use Rattle.numbers.proofs.AfterStores.{Raised}
+use Rattle.numbers.proofs.LoadedNumbers.{agreed, agreeing}
 use Rattle.commands.proofs.KeptFields.{FieldsOnly, fields-within, octet-after, kept-marks, fields-valid}
 
 -- a place that no command for entry i stores to

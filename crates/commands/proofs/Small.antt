@@ -10,7 +10,7 @@ use Rattle.octets.specs.Lists.{Octets}
 use Rattle.octets.specs.Numbers.{bytes}
 use Rattle.bodies.specs.Body.{stateOf}
 use Rattle.image.specs.Image.{bodyOf}
-use Rattle.association.specs.Numbers.{numberOf}
+use Rattle.numbers.specs.Numbers.{numberOf}
 use Rattle.judging.specs.Replies.{Reply}
 use Rattle.link.specs.Calls.{left}
 use Rattle.link.proofs.Leaving.{left-done, left-refused}

@@ -10,7 +10,7 @@ use Rattle.marks.specs.declared.plans.Store.{Store}
 use Rattle.bodies.specs.Body.{stateOf}
 use Rattle.image.specs.Image.{versionOf, bodyOf, validImage}
 use Rattle.association.specs.Association.{indexOf}
-use Rattle.association.specs.Numbers.{numberOf, agrees}
+use Rattle.numbers.specs.Numbers.{numberOf, agrees}
 use Rattle.association.specs.Search.{withSpi}
 use Rattle.association.specs.declared.search.Found.{Found}
 use Rattle.association.specs.declared.search.Found.the-variants as found

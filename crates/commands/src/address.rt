@@ -1,11 +1,11 @@
 // The tests that come first of a command, 1, 2, 13 and 14 in the paper's order. Nothing is changed.
 use association::Found;
-use association::Numbers;
-use association::Standing;
 use association::find_spi;
-use association::test_standing;
 use command_form::FRONT;
 use judging::Answer;
+use numbers::Numbers;
+use numbers::Standing;
+use numbers::test_standing;
 use octets::two_at;
 use procedures::Called;
 use procedures::Procedure;
@@ -13,7 +13,7 @@ use procedures::called_by;
 ghost use mathlib.Core.Path.{_≡_};
 ghost use mathlib.Core.Bool.{true};
 ghost use Rattle.image.specs.Image.{validImage};
-ghost use Rattle.association.specs.Numbers.{agrees};
+ghost use Rattle.numbers.specs.Numbers.{agrees};
 ghost use Rattle.command_form.specs.Form.{valueOf};
 ghost use Rattle.procedures.specs.Procedures.{procedureIs};
 ghost use Rattle.commands.specs.Commanding.{entryNamed};

@@ -5,7 +5,6 @@ mod deciding;
 
 use address::Address;
 use address::address_of;
-use association::Numbers;
 use command_form::FRONT;
 use command_form::spi_named;
 use deciding::decide;
@@ -17,6 +16,7 @@ use link::carried_out;
 use link::refused;
 use marks::make;
 use marks::make_all;
+use numbers::Numbers;
 use procedures::Procedure;
 use procedures::write_reply;
 ghost use mathlib.Core.Path.{_≡_};

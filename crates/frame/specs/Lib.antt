@@ -1,4 +1,3 @@
 pub mod Closing
-pub mod Masked
 pub mod Parts
 pub mod Rules

@@ -1,14 +1,11 @@
-// Document 01, 'Frames': when a frame obeys its kind, where its parts lie, its header under the mask, and its check field. Nothing here knows
-// images, keys or ciphers. Every function answers for every input: what lies past a frame's end reads as 0, and is never written.
+// Document 01, 'Frames': when a frame obeys its kind, where its parts lie, and its check field. Nothing here knows images, keys or ciphers.
+// Every function answers for every input: what lies past a frame's end reads as 0, and is never written.
 mod closing;
-mod masked;
 mod parts;
 mod rules;
 mod total;
 
 pub use closing::field_ok;
-pub use masked::Written;
-pub use masked::mask_header;
 pub use parts::ClearParts;
 pub use parts::SecuredParts;
 pub use parts::clear_parts;

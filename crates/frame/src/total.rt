@@ -1,6 +1,6 @@
 // Steps on numbers that have an answer for every input.
 ghost use mathlib.Core.Path.{_≡_};
-ghost use Prim.Native.Nat.{_-_, min};
+ghost use Prim.Native.Nat.{_-_};
 
 // a less b, and 0 where b is the greater.
 pub(crate) fn less(a: usize, b: usize) -> usize
@@ -10,13 +10,4 @@ pub(crate) fn less(a: usize, b: usize) -> usize
         return a - b;
     }
     0
-}
-
-pub(crate) fn lesser(a: usize, b: usize) -> usize
-    ensures { λ r. ⌜ r ≡ min a b ⌝ }
-{
-    if a <= b {
-        return a;
-    }
-    b
 }

@@ -1,11 +1,11 @@
 // What the crate `frame` answers on a case.
-use frame::Written;
 use kinds::Framing;
 use kinds::Kind;
 use kinds::Named;
 use kinds::Rewritten;
 use lines::front;
 use lines::print_number;
+use masking::Written;
 
 // What a line says of a case, beside the frame's octets and the mask's.
 pub(crate) struct Case {
@@ -68,7 +68,7 @@ fn print_parts(framing: Framing, security: u8, frame: &[u8]) {
 // The header under the mask, in an output whose octets are 165 before, so that those behind the header are seen to stay.
 fn print_masked(framing: Framing, mask: &[u8], frame: &[u8]) {
     let mut out = [165u8; 8];
-    match frame::mask_header(framing, mask, frame, &mut out) {
+    match masking::mask_header(framing, mask, frame, &mut out) {
         Written::Octets(count) => print(count),
         Written::NoRoom => {}
     }

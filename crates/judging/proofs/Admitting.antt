@@ -12,7 +12,7 @@ use Rattle.frame.specs.Closing.{fieldOk}
 use Rattle.frame.specs.Rules.{obeys}
 use Rattle.image.specs.Image.{validImage}
 use Rattle.association.specs.Association.{matching}
-use Rattle.association.specs.Numbers.{agrees}
+use Rattle.numbers.specs.Numbers.{agrees}
 use Rattle.association.specs.Search.{entryFor}
 use Rattle.association.specs.declared.search.Found.the-variants as found
 use Rattle.association.specs.declared.search.Wanted.{Wanted}

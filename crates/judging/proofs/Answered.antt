@@ -15,7 +15,7 @@ use Rattle.frame.specs.Parts.{exceeds, tooShort}
 use Rattle.frame.specs.Rules.{obeys}
 use Rattle.kinds.proofs.Kept.{lawful}
 use Rattle.association.specs.Association.{heldIn, isNone, theOne}
-use Rattle.association.specs.Numbers.{greatest, accepts, spent}
+use Rattle.numbers.specs.Numbers.{greatest, accepts, spent}
 use Rattle.association.specs.declared.held.Held.{Held}
 use Rattle.judging.specs.Answers.{Test, first}
 use Rattle.services.specs.SecurityHeader.{securityLength}
@@ -23,7 +23,6 @@ use Rattle.protection.specs.Protection.{securedLength, numberIn, clearLength}
 use Rattle.judging.specs.Replies.{Seen, frontTests, sendingTests, securingTests, securing, receivingTests, checkingTests, checking}
 use Rattle.judging.specs.Said.{Said, kindSaid}
 use Rattle.judging.proofs.First.{none-left, passes, passed}
-use Rattle.protection.proofs.Reading.{length-clear-data}
 use Rattle.protection.proofs.Wire as wire
 
 -- what the association that is seen holds
@@ -163,4 +162,4 @@ pub checking-size : (see : Seen) (right : Bool) (said : Said) (frame : List ℕ)
     length (q .result) ≡ q .size
 unfolding checking
 checking-size see right said frame room =
-    length-clear-data (heldBy see) (kindSaid said) frame
+    wire.length-clear-data (heldBy see) (kindSaid said) frame

@@ -6,9 +6,9 @@ use mathlib.Core.Bool.{Bool, true, false, cond}
 use mathlib.Core.List.{List}
 use native.Mathlib.Omega.{arith}
 use Rattle.image.specs.Image.{validImage}
-use Rattle.association.specs.Numbers.{agrees, standingNumber, loadStanding, standingOf}
-use Rattle.association.specs.declared.numbers.Standing.{Standing}
-use Rattle.association.specs.declared.numbers.Standing.the-variants as standing
+use Rattle.numbers.specs.Numbers.{agrees, standingNumber, loadStanding, standingOf}
+use Rattle.numbers.specs.declared.numbers.Standing.{Standing}
+use Rattle.numbers.specs.declared.numbers.Standing.the-variants as standing
 
 -- the three answers have three numbers, so no two are the same
 apart : {A : Type 0} (s t : Standing) → s ≡ t → (standingNumber s ≡ standingNumber t → ⊥) → A

@@ -10,8 +10,8 @@ use Rattle.frame.specs.Parts.{exceeds, tooShort}
 use Rattle.frame.specs.Rules.{obeys}
 use Rattle.association.specs.Association.{heldIn, Match, isNone, theOne, matching}
 use Rattle.image.specs.Image.{validImage}
-use Rattle.association.specs.Numbers.{agrees, accepts, spent}
-use Rattle.association.specs.Stores.{storesFor}
+use Rattle.numbers.specs.Numbers.{agrees, accepts, spent}
+use Rattle.numbers.specs.Stores.{storesFor}
 use Rattle.marks.specs.declared.plans.Store.{Store}
 use Rattle.association.specs.declared.held.Held.{Held}
 use Rattle.association.specs.declared.search.Wanted.{Wanted}

@@ -10,7 +10,7 @@ use Rattle.kinds.specs.declared.framing.Framing.{Framing}
 use Rattle.marks.specs.Stores.{storesOf}
 use Rattle.marks.specs.declared.plans.Store.{Store}
 use Rattle.association.specs.Search.{entryFor}
-use Rattle.association.specs.Stores.{storesFor}
+use Rattle.numbers.specs.Stores.{storesFor}
 use Rattle.association.specs.declared.held.Held.{Held}
 use Rattle.association.specs.declared.search.Found.the-variants as found
 use Rattle.association.specs.declared.search.Wanted.{Wanted}
@@ -19,8 +19,8 @@ use Rattle.judging.specs.Answers.{reported, refusal, first}
 use Rattle.judging.specs.Replies.{seen, Reply, frontTests, sendingTests, receivingTests}
 use Rattle.judging.specs.Said.{Said, kindSaid}
 use Rattle.judging.specs.declared.answers.Answer.{Answer}
-use Rattle.judging.specs.declared.admission.Admission.{Admission}
-use Rattle.judging.specs.declared.admission.Admission.the-variants as admission
+use Rattle.judging.specs.declared.verdict.Admission.{Admission}
+use Rattle.judging.specs.declared.verdict.Admission.the-variants as admission
 use Rattle.judging.specs.declared.verdict.Grant.{Grant}
 use Rattle.judging.specs.declared.verdict.Verdict.{Verdict}
 use Rattle.judging.specs.declared.verdict.Verdict.the-variants as verdict

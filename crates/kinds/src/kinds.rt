@@ -1,9 +1,9 @@
 // Document 01, 'Frames' and 'The image', and document 02, requests 1 and 6: one enum of kinds, which answers for whichever kind the caller
 // named.
-use headers::Aos;
-use headers::Segment;
-use headers::Tc;
-use headers::Tm;
+use aos::Aos;
+use telecommand::Segment;
+use telecommand::Tc;
+use telemetry::Tm;
 ghost use mathlib.Core.Path.{_≡_};
 ghost use Rattle.kinds.specs.Kinds.{kindIs, named, rewritten};
 

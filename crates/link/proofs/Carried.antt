@@ -8,12 +8,12 @@ use mathlib.Core.List.{List, _++_}
 use native.Mathlib.Omega.{arith}
 use lib.ListN.{length, set, drop}
 use Rattle.image.specs.Image.{countOf, validImage, markIn}
-use Rattle.association.specs.Stores.{planFor, storesFor}
+use Rattle.numbers.specs.Stores.{planFor, storesFor}
 use Rattle.marks.specs.Stores.{storesIn, storeAt, storesOf, stored}
-use Rattle.association.proofs.AfterStores.{has-entry}
+use Rattle.numbers.proofs.AfterStores.{has-entry}
 use Rattle.marks.proofs.Made.{length-steps}
 use Rattle.image.proofs.ValidImages.{valid-laid}
-use Rattle.association.specs.declared.numbers.Numbers.{Numbers}
+use Rattle.numbers.specs.declared.numbers.Numbers.{Numbers}
 use Rattle.octets.specs.Output.{written}
 use Rattle.judging.specs.Answers.{Reported, reported, granted}
 use Rattle.link.specs.Calls.{Left, leaving, left}

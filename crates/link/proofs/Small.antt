@@ -21,13 +21,13 @@ use Rattle.bodies.specs.Body.{stateOf, operational, mostWindow}
 use Rattle.image.specs.Image.{countOf, bodyOf, validImage}
 use Rattle.image.proofs.ValidImages.{valid}
 use Rattle.association.specs.Association.{Association, associationOf, held, heldIn, isNone, theOne, matching, indexOf}
-use Rattle.association.specs.Numbers.{numberOf, agrees}
+use Rattle.numbers.specs.Numbers.{numberOf, agrees}
 use Rattle.association.specs.Search.{bodyServes, matches, entryFor}
-use Rattle.association.specs.Stores.{storesFor}
+use Rattle.numbers.specs.Stores.{storesFor}
 use Rattle.association.specs.declared.held.Held.{Held}
 use Rattle.association.specs.declared.search.Wanted.{Wanted}
-use Rattle.association.proofs.Agreement.{accepted}
-use Rattle.association.proofs.LoadedNumbers.{agreed}
+use Rattle.numbers.proofs.Agreement.{accepted}
+use Rattle.numbers.proofs.LoadedNumbers.{agreed}
 use Rattle.judging.specs.Wants.{securingWants, checkingWants}
 use Rattle.link.specs.Calls.{Left, refused, done, left, loaded, securingReply, secured, checkingReply, checkedAs, checked}
 use Rattle.protection.specs.Protection.{textIn, numberIn, clearLength}

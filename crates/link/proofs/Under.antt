@@ -9,13 +9,11 @@ use Rattle.kinds.specs.Kinds.{Kind, framed}
 use Rattle.kinds.specs.declared.framing.Framing.{Framing}
 use Rattle.image.specs.Image.{bodyOf, keyOf}
 use Rattle.association.specs.Association.{Association, associationOf, held, heldIn, theOne, indexOf}
-use Rattle.association.specs.Numbers.{numberOf}
+use Rattle.numbers.specs.Numbers.{numberOf}
 use Rattle.association.specs.declared.held.Held.{Held}
 use Rattle.association.specs.declared.search.Found.{Found}
 use Rattle.association.specs.declared.search.Wanted.{Wanted}
 use Rattle.protection.specs.Protection.{securedLength, securedFrame, numberIn, macRight, clearLength, clearData}
-use Rattle.protection.specs.Steps.{openingOf}
-use Rattle.protection.specs.declared.checked.Opening.{Opening}
 use Rattle.judging.specs.Answers.{first}
 use Rattle.judging.specs.Replies.{Seen, seen, Reply, raising, frontTests, sendingTests, securingTests, securing, receivingTests, checkingTests, checking}
 use Rattle.judging.specs.Said.{Said, kindSaid}
@@ -44,10 +42,9 @@ module _ (image last : List ℕ) (i : ℕ) where
         → sendingJudged image i h l k frame room ≡ judgement (sendingReply image last i k spi frame room)
     sending-judged k spi frame room = rw (eh, el, held-under, number-under)
 
-    pub receiving-judged : (framing : Framing) (frame : List ℕ) (room : ℕ) (o : Opening) → o ≡ openingOf framing h frame
-        → receivingJudged image i (o .held) l (framed (o .framing)) frame room
-        ≡ judgement (receivingReply image last i (framed framing) frame room)
-    receiving-judged framing frame room o eo = rw (eo, eh, el, held-under, number-under)
+    pub receiving-judged : (k : Kind) (frame : List ℕ) (room : ℕ)
+        → receivingJudged image i h l k frame room ≡ judgement (receivingReply image last i k frame room)
+    receiving-judged k frame room = rw (eh, el, held-under, number-under)
 
 -- ---- past the tests that come first, or refused by them
 

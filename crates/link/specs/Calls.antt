@@ -8,7 +8,7 @@ use lib.Dec.{eqb}
 use lib.ListN.{length, set, take, drop}
 use Rattle.association.specs.Association.{heldIn, theOne, indexOf}
 use Rattle.image.specs.Image.{validImage}
-use Rattle.association.specs.Numbers.{loadedNumbers}
+use Rattle.numbers.specs.Numbers.{loadedNumbers}
 use Rattle.association.specs.Search.{entryFor}
 use Rattle.marks.specs.Stores.{stored}
 use Rattle.protection.specs.Protection.{macRight}

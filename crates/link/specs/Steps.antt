@@ -5,7 +5,7 @@ use Prim.Native.Nat.{ℕ, _+_}
 use mathlib.Core.List.{List}
 use Rattle.kinds.specs.Kinds.{Kind}
 use Rattle.association.specs.Association.{associationOf, heldIn}
-use Rattle.association.specs.declared.numbers.Numbers.{Numbers}
+use Rattle.numbers.specs.declared.numbers.Numbers.{Numbers}
 use Rattle.protection.specs.Protection.{securedLength, securedFrame, numberIn, macRight, clearLength, clearData}
 use Rattle.judging.specs.Answers.{first}
 use Rattle.judging.specs.Replies.{Reply, raising, sendingTests, receivingTests}

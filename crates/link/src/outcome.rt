@@ -1,7 +1,7 @@
 // Document 01, 'What comes back': what a call returns.
-use association::Numbers;
 use judging::Answer;
 use judging::Grant;
+use numbers::Numbers;
 ghost use mathlib.Core.Path.{_≡_};
 ghost use lib.ListN.{set};
 ghost use Rattle.judging.specs.Answers.{reported, granted};

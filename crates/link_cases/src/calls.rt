@@ -4,13 +4,13 @@ use crate::answers::print_answer;
 use crate::fields::four;
 use crate::fields::octet;
 use crate::fields::two;
-use association::Numbers;
-use association::raise;
 use commands::command;
 use lines::field;
 use lines::print_number;
 use lines::read_octets;
 use link::Outcome;
+use numbers::Numbers;
+use numbers::raise;
 use octets::octet_at;
 
 fn printed(outcome: Outcome, output: &[u8]) -> Numbers {
@@ -46,9 +46,9 @@ fn outcome(
     let kind = octet(line, 1);
     let field = octet(line, 2) != 0;
     if octet_at(line, 0) == b's' {
-        return link::secure(image, numbers, kind, field, two(line, 3), frame, output);
+        return securing::secure(image, numbers, kind, field, two(line, 3), frame, output);
     }
-    link::check(image, numbers, kind, field, frame, output)
+    checking::check(image, numbers, kind, field, frame, output)
 }
 
 // Such a line, by the numbers of its fields ROOM, which is the length of the output, at most 4096, and FRAME, or COMMAND.

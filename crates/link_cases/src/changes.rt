@@ -1,7 +1,7 @@
 // What a call changed of the image and of the numbers.
-use association::Numbers;
 use lines::print_number;
 use lines::print_octet;
+use numbers::Numbers;
 
 fn print_store(at: usize, old: u8, new: u8) {
     print_number(b", image ", at as u64);

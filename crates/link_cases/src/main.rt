@@ -7,9 +7,9 @@ mod changes;
 mod fields;
 mod state;
 
-use association::Numbers;
 use libc::STDIN_FILENO;
 use lines::read_line;
+use numbers::Numbers;
 use state::State;
 use state::step;
 

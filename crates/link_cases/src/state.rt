@@ -6,10 +6,10 @@ use crate::changes::print_advances;
 use crate::changes::print_stores;
 use crate::fields::four;
 use crate::fields::octet;
-use association::Numbers;
 use lines::field;
 use lines::print;
 use lines::read_octets;
+use numbers::Numbers;
 use octets::octet_at;
 
 // The image is the first `size` octets; the others are 0.

@@ -12,7 +12,7 @@ use lib.Seq.{take-append-seam}
 use Rattle.octets.specs.Output.{fronted}
 use Rattle.association.specs.Association.{entryOf}
 use Rattle.image.specs.Image.{countOf, validImage}
-use Rattle.association.specs.Numbers.{greatest}
+use Rattle.numbers.specs.Numbers.{greatest}
 use Rattle.image.proofs.ValidImages.{Valid, valid}
 use Rattle.listing_text.specs.Listing.{title, field, fields, next, line, lines, listing}
 use Rattle.writing.specs.Output.{writtenTo, lengthOf}

@@ -12,7 +12,7 @@ use lib.Seq.{take-suc}
 use Rattle.octets.specs.Lists.{octet}
 use Rattle.association.specs.Association.{entryOf}
 use Rattle.image.specs.Image.{countOf, validImage}
-use Rattle.association.specs.Numbers.{greatest}
+use Rattle.numbers.specs.Numbers.{greatest}
 use Rattle.association.specs.declared.entry.Entry.{Entry}
 use Rattle.writing.specs.Text.{ascii, decimal}
 use Rattle.listing_text.specs.Listing.{title, field, fields, next, columns, line, lines, listing}

@@ -6,7 +6,7 @@ use mathlib.Core.List.{List, [], _∷_, _++_}
 use lib.Dec.{leb}
 use Rattle.association.specs.Association.{entryOf}
 use Rattle.image.specs.Image.{countOf, validImage}
-use Rattle.association.specs.Numbers.{greatest}
+use Rattle.numbers.specs.Numbers.{greatest}
 use Rattle.association.specs.declared.entry.Entry.{Entry}
 use Rattle.writing.specs.Text.{ascii, decimal}
 

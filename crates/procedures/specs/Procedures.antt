@@ -12,8 +12,8 @@ use Rattle.marks.specs.declared.plans.Store.{Store}
 use Rattle.bodies.specs.Body.{windowOf, unkeyed, keyed, operational, windowFits}
 use Rattle.bodies.specs.Layout.{statePlace, windowPlace}
 use Rattle.image.specs.Image.{bodyAt}
-use Rattle.association.specs.Numbers.{accepts}
-use Rattle.association.specs.Stores.{storesFor}
+use Rattle.numbers.specs.Numbers.{accepts}
+use Rattle.numbers.specs.Stores.{storesFor}
 use Rattle.command_form.specs.Channels.{channelsRight}
 use Rattle.command_form.specs.Form.{tagOf, valueOf, measured, spiLength, windowLength, windowAsked, keyIdLength, keyAsked, channelLength}
 use Rattle.command_form.specs.Form.{numberLength, numberAsked, numberBehindKey, replyTo}

@@ -1,6 +1,5 @@
 // What a command stores, before any of it is stored.
 use crate::procedure::Procedure;
-use association::plan_for;
 use bodies::KEYED;
 use bodies::OPERATIONAL;
 use bodies::STATE;
@@ -10,6 +9,7 @@ use command_form::SPI;
 use image::body_at;
 use marks::Plan;
 use marks::Store;
+use numbers::plan_for;
 use octets::octet_at;
 ghost use mathlib.Core.Path.{_≡_};
 ghost use mathlib.Core.List.{[], _∷_};

@@ -20,11 +20,11 @@ use Rattle.frame.specs.Parts.{exceeds, tooShort}
 use Rattle.frame.specs.Rules.{least, obeys}
 use Rattle.association.specs.Association.{Association, associationOf, held, heldIn, isNone, theOne, matching, indexOf}
 use Rattle.image.specs.Image.{validImage}
-use Rattle.association.specs.Numbers.{greatest, loadedNumbers, agrees, accepts, spent}
+use Rattle.numbers.specs.Numbers.{greatest, loadedNumbers, agrees, accepts, spent}
 use Rattle.association.specs.Search.{entryFor}
 use Rattle.association.specs.declared.held.Held.{Held}
 use Rattle.association.specs.declared.search.Wanted.{Wanted}
-use Rattle.association.proofs.Agreement.{accepted}
+use Rattle.numbers.proofs.Agreement.{accepted}
 use Rattle.image.proofs.ValidImages.{valid, spi-once}
 use Rattle.judging.specs.Answers.{Reported, reported, Test, first}
 use Rattle.judging.specs.Wants.{wanted}

@@ -16,10 +16,10 @@ use Rattle.bodies.specs.Body.{bodyIn, bodyOk}
 use Rattle.marks.specs.Gray.{decoded}
 use Rattle.bodies.specs.Layout.{layoutOf}
 use Rattle.image.specs.Image.{bodyAt, bodyOf, markAt, markIn, keyAt, keyOf, imageSize, laidOut, entryOk, validImage}
-use Rattle.association.specs.Numbers.{loadedNumbers, agrees}
+use Rattle.numbers.specs.Numbers.{loadedNumbers, agrees}
 use Rattle.association.specs.Search.{bodyServes, matches, firstFrom, entryFor}
 use Rattle.marks.specs.Stores.{steps, stored}
-use Rattle.association.specs.Stores.{planFor, afterStores}
+use Rattle.numbers.specs.Stores.{planFor, afterStores}
 use Rattle.judging.specs.Answers.{first}
 use Rattle.judging.specs.Wants.{wanted}
 use Rattle.link.specs.Calls.{loaded, securingReply, secured, securedCut, checkingReply, checkedAs, checkedCutAs}

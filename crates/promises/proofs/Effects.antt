@@ -12,11 +12,11 @@ use lib.Dec.{eqb}
 use lib.ListN.{length, set, take}
 use lib.Seq.{getD-set-same, getD-set-other}
 use Rattle.image.specs.Image.{validImage, markIn}
-use Rattle.association.specs.Stores.{afterStores}
+use Rattle.numbers.specs.Stores.{afterStores}
 use Rattle.marks.specs.declared.plans.Store.{Store}
 use Rattle.marks.specs.Stores.{stored}
-use Rattle.association.proofs.AfterStores.{Raised}
-use Rattle.association.proofs.LoadedNumbers.{agreed}
+use Rattle.numbers.proofs.AfterStores.{Raised}
+use Rattle.numbers.proofs.LoadedNumbers.{agreed}
 use Rattle.image.proofs.ValidImages.{valid}
 use Rattle.link.specs.Calls.{Left, handed, left, cut, loaded, securingEntry, securingReply, secured, securedCut}
 use Rattle.link.specs.Calls.{comparison, checkingReply, checkingEntry, checkedAs, checked, checkedCutAs, checkedCut}

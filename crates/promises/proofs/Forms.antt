@@ -19,11 +19,11 @@ use Rattle.headers.specs.Fields.{tmSecondary}
 use Rattle.headers.specs.Telecommand.{tcRules, tcLengthOk, tcWithLength}
 use Rattle.headers.specs.Telemetry.{secondaryRules, tmHeader}
 use Rattle.kinds.specs.Kinds.{Kind, telecommand, tm, aos, noKind, kindBehind, kindOf, named}
-use Rattle.frame.specs.Masked.{masked}
+use Rattle.masking.specs.Masked.{masked}
 use Rattle.kinds.specs.declared.kinds.Kind.the-variants as kind
 use Rattle.kinds.specs.declared.kinds.Named.the-variants as answer
 use Rattle.kinds.proofs.Kept.{tc-other, tc-two, tc-three}
-use Rattle.frame.proofs.Masking.{octet-reached, octet-beyond, length-masked}
+use Rattle.masking.proofs.Masking.{octet-reached, octet-beyond, length-masked}
 use Rattle.promises.specs.Forms.{Form, TcHeader, tcSecuredOctet, tcForm, SecondaryHeader}
 use Rattle.promises.specs.Forms.{plainTcForm, segmentedTcForm, tmForm, aosForm, noForm, formOf, underMask}
 

@@ -8,11 +8,11 @@ use mathlib.Core.List.{List}
 use native.Mathlib.Decide.{ℕ-discrete}
 use lib.ListN.{length}
 use Rattle.association.specs.Association.{associationOf, held, heldIn, isNone, theOne, matching, indexOf}
-use Rattle.association.specs.Numbers.{agrees}
+use Rattle.numbers.specs.Numbers.{agrees}
 use Rattle.bodies.specs.Layout.{layoutOf}
 use Rattle.image.specs.Image.{versionOf, countOf, bodyOf, keyOf, validImage, markIn}
 use Rattle.association.specs.Search.{matches, entryFor}
-use Rattle.association.specs.Stores.{storesFor}
+use Rattle.numbers.specs.Stores.{storesFor}
 use Rattle.association.specs.declared.search.Found.the-variants as found
 use Rattle.association.specs.declared.search.Wanted.{Wanted}
 use Rattle.association.proofs.Finding.{found-matching}

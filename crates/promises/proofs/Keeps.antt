@@ -8,11 +8,11 @@ use native.Mathlib.Decide.{ℕ-discrete}
 use lib.ListN.{length, take, length-set}
 use Rattle.octets.specs.Lists.{Octets}
 use Rattle.image.specs.Image.{countOf, validImage, markIn}
-use Rattle.association.specs.Numbers.{loadedNumbers, agrees}
-use Rattle.association.specs.Stores.{afterStores}
+use Rattle.numbers.specs.Numbers.{loadedNumbers, agrees}
+use Rattle.numbers.specs.Stores.{afterStores}
 use Rattle.marks.specs.declared.plans.Store.{Store}
 use Rattle.marks.specs.Stores.{stored}
-use Rattle.association.proofs.LoadedNumbers.{length-loaded, loaded-entry, load-agrees}
+use Rattle.numbers.proofs.LoadedNumbers.{length-loaded, loaded-entry, load-agrees}
 use Rattle.image.proofs.ValidImages.{valid}
 use Rattle.link.specs.Calls.{refused, done, left, cut, loaded, securingEntry, securingReply, secured, securedCut}
 use Rattle.link.specs.Calls.{comparison, checkingReply, checkingEntry, checkedAs, checked, checkedCutAs, checkedCut}

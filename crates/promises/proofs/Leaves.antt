@@ -9,8 +9,8 @@ use native.Mathlib.Omega.{arith}
 use lib.ListN.{length}
 use Rattle.octets.specs.Lists.{Octets}
 use Rattle.image.specs.Image.{validImage}
-use Rattle.association.specs.Numbers.{loadedNumbers}
-use Rattle.association.proofs.LoadedNumbers.{length-loaded, loaded-entry, loaded-none, load-agrees}
+use Rattle.numbers.specs.Numbers.{loadedNumbers}
+use Rattle.numbers.proofs.LoadedNumbers.{length-loaded, loaded-entry, loaded-none, load-agrees}
 use Rattle.image.proofs.ValidImages.{valid}
 use Rattle.link.specs.Calls.{refused, done, loaded, secured, checked}
 use Rattle.judging.specs.Replies.{Reply}

@@ -20,7 +20,7 @@ use Rattle.cmac.specs.Mac.{cmac}
 use Rattle.gcm.specs.Decryption.{plaintext}
 use Rattle.gcm.specs.Encryption.{ciphertext, tag}
 use Rattle.frame.specs.Closing.{controlOf, fieldOk}
-use Rattle.frame.specs.Masked.{masked}
+use Rattle.masking.specs.Masked.{masked}
 use Rattle.frame.specs.Parts.{headerOf, clearContent, securityOf, securedContent, macOf}
 use Rattle.frame.specs.Rules.{least, obeys}
 use Rattle.frame.proofs.Room.{obeyed, obeying}

@@ -7,7 +7,7 @@ use mathlib.Core.Bool.{Bool, true, false, cond}
 use mathlib.Core.List.{List, []}
 use lib.ListN.{length}
 use Rattle.image.specs.Image.{validImage}
-use Rattle.association.specs.Numbers.{loadedNumbers}
+use Rattle.numbers.specs.Numbers.{loadedNumbers}
 use Rattle.link.specs.Calls.{refused, left, cut, loaded, securingReply, secured, securedCut}
 use Rattle.link.specs.Calls.{comparison, checkingReply, checkedAs, checked, checkedCutAs, checkedCut}
 use Rattle.judging.specs.Replies.{Reply}

@@ -7,7 +7,7 @@ use mathlib.Core.List.{List}
 use lib.ListN.{length, take}
 use Rattle.association.specs.Association.{Association, associationOf, held, heldIn, theOne, matching}
 use Rattle.image.specs.Image.{countOf, spiOf}
-use Rattle.association.specs.Stores.{afterStores}
+use Rattle.numbers.specs.Stores.{afterStores}
 use Rattle.marks.specs.declared.plans.Store.{Store}
 use Rattle.marks.specs.Stores.{stored}
 use Rattle.judging.specs.Wants.{checkingWants}

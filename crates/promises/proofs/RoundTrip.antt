@@ -13,7 +13,7 @@ use Rattle.kinds.specs.Kinds.{Kind}
 use Rattle.frame.specs.Rules.{obeys}
 use Rattle.kinds.proofs.Kept.{Kept, lawful}
 use Rattle.association.specs.Association.{Association, associationOf, held, heldIn}
-use Rattle.association.specs.Numbers.{greatest, accepts}
+use Rattle.numbers.specs.Numbers.{greatest, accepts}
 use Rattle.association.specs.declared.held.Held.{Held}
 use Rattle.association.specs.declared.search.Wanted.{Wanted}
 use Rattle.association.proofs.Finding.{found-matching}

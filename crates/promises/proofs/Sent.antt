@@ -16,7 +16,7 @@ use Rattle.kinds.proofs.Kept.{lawful}
 use Rattle.frame.proofs.Room.{obeyed}
 use Rattle.association.specs.Association.{Association, associationOf, held, heldIn, theOne, matching}
 use Rattle.image.specs.Image.{countOf, spiOf}
-use Rattle.association.specs.Stores.{afterStores}
+use Rattle.numbers.specs.Stores.{afterStores}
 use Rattle.marks.specs.declared.plans.Store.{Store}
 use Rattle.marks.specs.Stores.{stored}
 use Rattle.image.proofs.ValidImages.{valid}

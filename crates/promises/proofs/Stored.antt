@@ -12,12 +12,12 @@ use lib.Seq.{length-front, length-take-le, drop-at, take-all}
 use Rattle.octets.specs.Lists.{Octets}
 use Rattle.marks.specs.Gray.{gray}
 use Rattle.image.specs.Image.{markIn, markAt}
-use Rattle.association.specs.Numbers.{agrees}
+use Rattle.numbers.specs.Numbers.{agrees}
 use Rattle.marks.specs.Stores.{stored}
-use Rattle.association.specs.Stores.{afterStores}
-use Rattle.association.proofs.AfterStores.{Raised, raised}
-use Rattle.association.proofs.Agreement.{still-agrees}
-use Rattle.association.proofs.LoadedNumbers.{agreed}
+use Rattle.numbers.specs.Stores.{afterStores}
+use Rattle.numbers.proofs.AfterStores.{Raised, raised}
+use Rattle.numbers.proofs.Agreement.{still-agrees}
+use Rattle.numbers.proofs.LoadedNumbers.{agreed}
 use Rattle.octets.proofs.Outside.{Outside}
 use Rattle.link.specs.Calls.{done}
 use Rattle.judging.specs.Replies.{Reply}

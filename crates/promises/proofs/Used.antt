@@ -9,9 +9,9 @@ use native.Mathlib.Omega.{arith}
 use lib.ListN.{length}
 use Rattle.association.specs.Association.{Association, associationOf, held, heldIn, theOne, matching}
 use Rattle.image.specs.Image.{countOf, spiOf, validImage, markIn}
-use Rattle.association.specs.Numbers.{greatest, agrees, accepts}
-use Rattle.association.specs.Stores.{storesFor}
-use Rattle.association.proofs.Agreement.{Accepted, accepted}
+use Rattle.numbers.specs.Numbers.{greatest, agrees, accepts}
+use Rattle.numbers.specs.Stores.{storesFor}
+use Rattle.numbers.proofs.Agreement.{Accepted, accepted}
 use Rattle.image.proofs.ValidImages.{valid, spi-once}
 use Rattle.judging.specs.Wants.{securingWants, checkingWants}
 use Rattle.link.specs.Calls.{securingEntry, securingReply, checkingEntry, checkingReply}

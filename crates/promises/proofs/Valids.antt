@@ -20,11 +20,11 @@ use Rattle.marks.specs.Gray.{gray, ungray}
 use Rattle.image.specs.Image.{versionOf, countOf, spiOf, spiBefore, positionOf, bodyAt, bodyOf, imageSize, laidOut, entryOk, validImage}
 use Rattle.bodies.specs.Layout.{layoutOf, versionOk}
 use Rattle.image.specs.Image.{markIn}
-use Rattle.association.specs.Numbers.{agrees}
+use Rattle.numbers.specs.Numbers.{agrees}
 use Rattle.association.specs.Search.{inSet, servesChannel, bodyServes, matches}
 use Rattle.association.specs.declared.search.Wanted.{Wanted}
 use Rattle.marks.proofs.GrayCode.{gray-lt, gray-below, gray-ungray, ungray-gray}
-use Rattle.association.proofs.LoadedNumbers.{agreed, agreeing}
+use Rattle.numbers.proofs.LoadedNumbers.{agreed, agreeing}
 use Rattle.bodies.proofs.ValidBodies.{ValidBody}
 use Rattle.image.proofs.ValidImages.{Valid, valid, spi-rises}
 use Rattle.judging.specs.Wants.{wanted}

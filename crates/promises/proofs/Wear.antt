@@ -15,7 +15,7 @@ use Rattle.octets.specs.Lists.{Octets}
 use Rattle.image.specs.Image.{validImage, markIn}
 use Rattle.marks.specs.declared.plans.Store.{Store}
 use Rattle.marks.specs.Stores.{stored}
-use Rattle.association.proofs.LoadedNumbers.{agreed}
+use Rattle.numbers.proofs.LoadedNumbers.{agreed}
 use Rattle.link.specs.Calls.{refused, done, left, cut, loaded, securingEntry, securingReply, secured, securedCut}
 use Rattle.link.specs.Calls.{comparison, checkingReply, checkingEntry, checkedAs, checked, checkedCutAs, checkedCut}
 use Rattle.judging.specs.Replies.{Reply}

@@ -9,10 +9,10 @@ use native.Mathlib.Omega.{arith}
 use lib.ListN.{length, take, drop, replicate, length-append}
 use lib.Seq.{slice, length-slice, length-take-le, take-at}
 use Rattle.kinds.specs.Kinds.{Kind, framed}
-use Rattle.frame.specs.Masked.{masked, maskedHeader}
+use Rattle.masking.specs.Masked.{masked, maskedHeader}
 use Rattle.frame.specs.Parts.{headerOf, securityOf}
 use Rattle.kinds.specs.declared.framing.Framing.{Framing}
-use Rattle.frame.proofs.Masking.{length-masked}
+use Rattle.masking.proofs.Masking.{length-masked}
 use Rattle.kinds.proofs.Sizes.{header-most}
 use Rattle.octets.specs.Output.{written, fronted}
 use Rattle.association.specs.declared.held.Held.{Held}

@@ -1,6 +1,3 @@
-pub mod Assembling
 pub mod Covering
-pub mod Headers
-pub mod Reading
 pub mod Slices
 pub mod Wire

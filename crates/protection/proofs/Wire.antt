@@ -31,7 +31,7 @@ use Rattle.protection.specs.Protection.{coveredBefore, securedLength, se
 use Rattle.protection.specs.Protection.{coveredIn, spiIn, fieldIn, textIn, numberIn, macRight, clearData, clearLength}
 use Rattle.services.proofs.ServiceLaws.{Lawful, lawful}
 
--- ---- where a reader finds the number, in any frame
+-- ---- where a reader finds the number, in any frame, and how long the clear data is
 
 pub number-read : (h : Held) (k : Kind) (frame : List ℕ) → numberIn h k frame ≡ numberAt (k .header frame + 2) (serviceIn h .field) frame
 unfolding numberIn fieldIn securityOf
@@ -46,6 +46,11 @@ number-read h k frame =
     ∙ getD-take b frame (a + (2 + i)) 0 (omega arith)
     ∙ ap (octet frame) z
     ∙ sym (getD-drop (a + 2) frame i 0))
+
+-- the clear data is as long as the data that came in
+pub length-clear-data : (h : Held) (k : Kind) (frame : List ℕ) → length (clearData h k frame) ≡ clearLength h k frame
+unfolding clearData clearLength
+length-clear-data h k frame = lawful (h .service) .lengthIn (h .key) (fieldIn h k frame) (textIn h k frame)
 
 -- ---- the parts, as securing makes them
 

@@ -1,2 +1,1 @@
 pub mod Protection
-pub mod Steps

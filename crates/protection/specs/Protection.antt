@@ -10,7 +10,7 @@ use Rattle.octets.specs.Numbers.{numberAt, bytes}
 use Rattle.octets.specs.Same.{same}
 use Rattle.kinds.specs.Kinds.{Kind, mostHeader}
 use Rattle.frame.specs.Closing.{controlOf, closed}
-use Rattle.frame.specs.Masked.{masked}
+use Rattle.masking.specs.Masked.{masked}
 use Rattle.frame.specs.Parts as parts
 use Rattle.frame.specs.Parts.{headerOf, headerEnd, securityOf, macOf}
 use Rattle.association.specs.declared.held.Held.{Held}

@@ -1,13 +1,6 @@
-// Document 01, 'Frames': the secured frame. What an association holds (service, mask, key) makes a secured frame of a clear one, and reads a
-// secured one. Nothing here knows images, numbers or answers.
-mod checked;
-mod cover;
-mod secured;
+// Document 01, 'Frames': the secured frame. Its definitions stand here, with what they say of one another, and what the MAC covers before
+// the data; crate `sealing` makes the frame, and crate `opening` reads it.
+mod before;
 
-pub use checked::Opening;
-pub use checked::clear_length;
-pub use checked::mac_right;
-pub use checked::number_of;
-pub use checked::opening_of;
-pub use checked::release_data;
-pub use secured::write_secured;
+pub use before::MOST_BEFORE;
+pub use before::cover;

@@ -12,7 +12,7 @@ use Rattle.octets.proofs.Numbers.{numberAt-part}
 use Rattle.octets.proofs.Parts.{octet-part}
 use Rattle.image.specs.Image.{validImage, markIn}
 use Rattle.marks.specs.Gray.{ungray}
-use Rattle.association.proofs.LoadedNumbers.{agreed}
+use Rattle.numbers.proofs.LoadedNumbers.{agreed}
 use Rattle.link.specs.Calls.{loaded}
 use Rattle.promises.specs.Images.{countIn, directionAt, positionAt, place, codeAt, lastAt, wholeBodyAt}
 use Rattle.promises.specs.Runs.{Step, State, Shown, restart, kept, after, ran, shows, trace, SentAfter, SentRise, ReleasedAfter, ReleasedRise}

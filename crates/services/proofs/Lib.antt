@@ -1,4 +1,3 @@
 pub mod Chosen
 pub mod Ciphers
-pub mod Fields
 pub mod ServiceLaws

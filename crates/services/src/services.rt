@@ -1,18 +1,28 @@
 // Document 01, 'Frames': the two services. `security` is the whole security header, and `before` what the MAC covers before the data. What comes
 // in is read under the expanded key, since one call compares its MAC and releases its data. The tables say which engine makes the blocks.
-use crate::sequence::iv_in;
 use association::Held;
 use key_schedule::expand_key;
+use octets::copy_at;
 use octets::put;
 ghost use mathlib.Core.Path.{_≡_};
 ghost use Prim.Native.Nat.{_≤_};
 ghost use lib.ListN.{length};
+ghost use Rattle.octets.specs.Lists.{part};
 ghost use Rattle.octets.specs.Same.{same};
 ghost use Rattle.octets.specs.Output.{written};
 ghost use Rattle.engines.specs.Lent.{Lent};
 ghost use Rattle.key_schedule.specs.KeyExpansion.{keyExpansion};
 ghost use Rattle.services.specs.SecurityHeader.{securityLength};
 ghost use Rattle.services.specs.Steps.{textUnder, clearUnder, macUnder};
+
+// The field of a security header of service 2, as GCM takes it.
+fn iv_in(security: &[u8]) -> [u8; 12]
+    ensures { λ r. ⌜ r ≡ part 2 12 (now (security .entry)) ⌝ }
+{
+    let mut iv: [u8; 12] = [0; 12];
+    copy_at(security, 2, &mut iv);
+    iv
+}
 
 // The data as it goes out, to the front of `text`, and its MAC.
 pub fn protect(

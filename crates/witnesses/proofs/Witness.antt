@@ -19,7 +19,7 @@ use Rattle.octets.proofs.Alls.{and-left, and-right}
 use Rattle.octets.proofs.Bounds.{octets-nil, octets-cons}
 use Rattle.frame.specs.Closing.{fieldOk}
 use Rattle.image.specs.Image.{bodyOf, validImage}
-use Rattle.association.specs.Numbers.{agrees}
+use Rattle.numbers.specs.Numbers.{agrees}
 use Rattle.association.specs.Search.{servesChannel}
 use Rattle.link.specs.Calls.{handed, loaded, secured, checkedAs, checked}
 use Rattle.services.specs.Services.{service}

@@ -7,7 +7,7 @@ use Prim.Native.Nat.{ℕ}
 use lib.ListN.{length}
 use Rattle.octets.specs.Output.{fronted}
 use Rattle.image.specs.Image.{versionOf, bodyOf}
-use Rattle.association.specs.Numbers.{numberOf}
+use Rattle.numbers.specs.Numbers.{numberOf}
 use Rattle.judging.specs.Replies.{Reply}
 use Rattle.judging.specs.Verdicts.{judgement, Judged}
 use Rattle.judging.specs.declared.verdict.Verdict.{Verdict}

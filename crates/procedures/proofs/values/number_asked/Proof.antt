@@ -4,9 +4,9 @@ use mathlib.Core.Path.{sym, _∙_, subst}
 use mathlib.Core.Bool.{true}
 use mathlib.Core.Path.{_≡_}
 use Prim.Native.Nat.{ℕ}
-use Rattle.association.specs.Numbers.{accepts}
+use Rattle.numbers.specs.Numbers.{accepts}
 use Rattle.services.specs.Services.{service}
-use Rattle.judging.proofs.Accepting.{accepted-low}
+use Rattle.verdicts.proofs.Accepting.{accepted-low}
 use Rattle.procedures.specs.Procedures.{mostRise}
 use borrow.Author.Needs.{needs}
 use Rattle.procedures.proofs.values.number_asked.Statement.{statement}

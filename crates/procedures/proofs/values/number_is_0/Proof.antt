@@ -1,6 +1,6 @@
 -- `number_is_0` is right because twelve octets are three words, and their number is 0 only if each of these is.
 -- Assumes nothing.
-use Rattle.services.proofs.Fields.{three-words}
+use Rattle.security_header.proofs.Fields.{three-words}
 use Rattle.procedures.proofs.ZeroNumbers.{all-zero}
 use borrow.Author.Needs.{needs}
 use Rattle.procedures.proofs.values.number_is_0.Statement.{statement}

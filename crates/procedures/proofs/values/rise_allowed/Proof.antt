@@ -1,7 +1,7 @@
 -- `rise_allowed` is right because the window's test of that rise is made of the whole number.
 -- Assumes nothing.
 use mathlib.Core.Path.{ap, _∙_}
-use Rattle.association.specs.Numbers.{accepts}
+use Rattle.numbers.specs.Numbers.{accepts}
 use Rattle.services.specs.Services.{service}
 use Rattle.procedures.specs.Procedures.{mostRise}
 use borrow.Author.Needs.{needs}

@@ -1,0 +1,46 @@
+// Document 01, 'What comes back', answer 4: what a frame asks of an entry.
+use association::Wanted;
+use kinds::Framing;
+use kinds::Named;
+use octets::two_at;
+ghost use mathlib.Core.Path.{_≡_};
+ghost use Rattle.kinds.specs.Kinds.{kindIs, kindOf, kindBehind};
+ghost use Rattle.protection.specs.Protection.{spiIn};
+ghost use Rattle.judging.specs.Said.{saying};
+ghost use Rattle.judging.specs.Wants.{wanted};
+
+pub(crate) const SENDING: u8 = 1;
+
+pub(crate) const RECEIVING: u8 = 2;
+
+// `number` is the number that names the kind.
+pub(crate) fn wanted_by(
+    spi: u16,
+    direction: u8,
+    number: u8,
+    framing: Framing,
+    frame: &[u8],
+) -> Wanted
+    requires { ⌜ kindOf number ≡ kindIs (framing .kind) ⌝ }
+    ensures { λ r. ⌜ r ≡ wanted spi direction (saying number (framing .field)) (now (frame .entry)) ⌝ }
+{
+    let kind = framing.kind;
+    Wanted {
+        spi,
+        direction,
+        kind: number,
+        spacecraft: kind.spacecraft(frame),
+        channel: kind.channel(frame),
+        map: kind.map(frame),
+    }
+}
+
+// The SPI on a secured frame; a number that names no kind has no header before it.
+pub(crate) fn spi_on(asked: Named, frame: &[u8]) -> u16
+    ensures { λ r. ⌜ r ≡ spiIn (kindBehind asked) (now (frame .entry)) ⌝ }
+{
+    match asked {
+        Named::Kind(kind) => two_at(frame, kind.header_length(frame)),
+        Named::Nothing => two_at(frame, 0),
+    }
+}

@@ -1,0 +1,48 @@
+// Document 01, 'Managed numbers': the 32 numbers, between the list that the caller lends and the value that the module works on.
+use crate::packing::pack;
+use image::image_ok;
+use judging::Answer;
+use numbers::Numbers;
+ghost use mathlib.Core.Path.{_≡_};
+ghost use mathlib.Core.Bool.{cond};
+ghost use lib.ListN.{length};
+ghost use Rattle.image.specs.Image.{validImage};
+ghost use Rattle.lent.specs.Word.{word};
+
+pub fn numbers_in(lent: &[u32]) -> Numbers
+    requires { ⌜ length (now lent) ≡ 32 ⌝ }
+    ensures { λ r. ⌜ r .last ≡ now (lent .entry) ⌝ }
+{
+    let mut last: [u32; 32] = [0; 32];
+    let mut i: usize = 0;
+    while i < 32 {
+        last[i] = lent[i];
+        i += 1;
+    }
+    Numbers { last }
+}
+
+// Only a number that differs is stored, so a refused call, which hands the numbers back as they were, writes none.
+pub fn hand_back(numbers: Numbers, lent: &mut [u32])
+    requires { ⌜ length (now lent) ≡ 32 ⌝ }
+    ensures { λ _. ⌜ now (lent .exit) ≡ numbers .last ⌝ }
+{
+    let last = numbers.last;
+    let mut i: usize = 0;
+    while i < 32 {
+        if lent[i] != last[i] {
+            lent[i] = last[i];
+        }
+        i += 1;
+    }
+}
+
+// The answer where the numbers are not 32: they agree with no image.
+pub fn refuse_count(image: &[u8]) -> u64
+    ensures { λ r. ⌜ r ≡ word (cond (validImage (now (image .entry))) 2 1) 0 0 ⌝ }
+{
+    if image_ok(image) {
+        return pack(Answer::BadMarks);
+    }
+    pack(Answer::BadImage)
+}

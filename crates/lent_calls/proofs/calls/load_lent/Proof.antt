@@ -1,0 +1,44 @@
+-- `load_lent` is right because with 32 numbers it is the module's load, and with another count the refusal.
+-- Assumes nothing.
+use mathlib.Core.List.{[]}
+use Rattle.link.specs.Calls.{loaded}
+use Rattle.lent_calls.specs.Interface.{loadCall}
+use Rattle.lent_calls.proofs.Returning.{returned, miscounted}
+use borrow.Author.Needs.{needs}
+use Rattle.lent_calls.proofs.calls.load_lent.Statement.{statement}
+use Rattle.lent_calls.proofs.calls.load_lent.Tie as tie
+
+returns : tie.Need-returns
+unfolding loadCall
+returns c =
+    let g = c .before .before .before .before .args in
+    miscounted (loaded (g .image .now)) (g .image .now) (g .numbers .now) []
+    (c .before .if1 .taken)
+    (c .refuse-count .ensures)
+
+returns-2 : tie.Need-returns-2
+unfolding loadCall
+returns-2 c =
+    let at-load = c .before .before .before .before .before in
+    let at-else = at-load .before .before .before in
+    let g = at-else .before .before .before .args in
+    returned (loaded (g .image .now)) (g .image .now) (g .numbers .now) []
+    (at-load .load .result)
+    (at-else .if1 .left)
+    (at-load .before .numbers-in .ensures)
+    (at-load .load .ensures)
+    (c .before .before .before .hand-back .ensures)
+    (c .pack .ensures)
+
+pub load-lent-spec : {M : Type 1} → statement M
+load-lent-spec =
+    tie.close
+    (tie.spec
+    (λ c κs. search needs)
+    returns
+    (λ c κs. search needs)
+    (λ c κs. search needs)
+    (λ c κs. search needs)
+    (λ c κs. search needs)
+    (λ c. search needs)
+    returns-2)

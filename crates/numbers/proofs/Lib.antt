@@ -1,0 +1,4 @@
+pub mod AfterStores
+pub mod Agreement
+pub mod LoadedNumbers
+pub mod Loading

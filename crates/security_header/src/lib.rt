@@ -1,0 +1,7 @@
+// Document 01, 'Frames': the security header of either service, and the sequence number in it.
+mod sequence;
+
+pub use sequence::Sequence;
+pub use sequence::number_in;
+pub use sequence::security_header;
+pub use sequence::security_length;
