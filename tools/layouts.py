@@ -610,6 +610,10 @@ MANAGEMENT = {
 }
 
 
+# Crates of theorems that show that no promise is empty: one box in the picture of the layers.
+WITNESSES = {"witness_frames", "round_trip_witnesses", "answer_witnesses", "bit_witnesses", "run_witnesses", "isolation_witnesses"}
+
+
 def beside(p, own, module, arrows, bent):
     """Crates that stand on those of the picture of the module, which are drawn with what they need of it."""
     p.text(24, 26, p.title, 16, "start", "bold")
@@ -715,7 +719,7 @@ def layers():
         "promises": (538, 14, 172, FREE, "theorems alone"),
         "lent_calls": (24, 15, 506, FREE, "the calls over what C lends"),
         "link_c": (24, 16, 506, FREE, "the C interface"),
-        "witnesses": (538, 15, 172, FREE, "that they are not empty"),
+        "witnesses": (538, 15, 172, FREE, "not empty: six crates"),
     }
     programs = {
         "link_cases": (7, "runs the calls"),
@@ -747,6 +751,7 @@ def layers():
         ("checking", "link", 476, 560), ("sealing", "protection", 160, 365), ("opening", "protection", 320, 365),
     ]
     needed = stands_on()
+    needed["witnesses"] = set().union(*(needed.pop(name) for name in WITNESSES)) - WITNESSES
     assert set(needed) == set(boxes) | set(programs) | set(GROUND) | set(MANAGEMENT), "crates.txt has other crates"
     drawn = arrows + [(above, below, x) for above, below, x, _ in bent]
     for name in boxes:

@@ -1,0 +1,2 @@
+pub mod Projects
+pub mod Upgrades

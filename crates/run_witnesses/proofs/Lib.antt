@@ -1,0 +1,2 @@
+pub mod Sendings
+pub mod Releases
