@@ -31,12 +31,11 @@ octet-more k w o ho hw = rw (add-one, pow-suc) (omega arith)
 pub word-more : (k w o at : ℕ) (s : List ℕ) → w ≡ number k (drop at s) → o ≡ octet s (at + k) → w * 256 + o ≡ number (k + 1) (drop at s)
 word-more k w o at s ew eo = cc (number-step k (drop at s), getD-drop at s k 0)
 
-pub word-joined : (at : ℕ) (s : List ℕ)
-    → octet s at * 2 ^ 56 + octet s (at + 1) * 2 ^ 48 + octet s (at + 2) * 2 ^ 40 + octet s (at + 3) * 2 ^ 32 + octet s (at + 4) * 2 ^ 24
-    + octet s (at + 5) * 2 ^ 16 + octet s (at + 6) * 2 ^ 8 + octet s (at + 7)
-    ≡ number 8 (drop at s)
+pub word-joined : (at x y : ℕ) (s : List ℕ) → x ≡ octet s at * 2 ^ 24 + octet s (at + 1) * 2 ^ 16 + octet s (at + 2) * 2 ^ 8 + octet s (at + 3)
+    → y ≡ octet s (at + 4) * 2 ^ 24 + octet s (at + 5) * 2 ^ 16 + octet s (at + 6) * 2 ^ 8 + octet s (at + 7)
+    → x * 0x1_0000_0000 + y ≡ number 8 (drop at s)
 unfolding number
-word-joined at s =
+word-joined at x y s ex ey =
     let first : octet (drop at s) 0 ≡ octet s at = getD-drop at s 0 0 ∙ ap (octet s) (add-zero at) in
     omega (
       arith,

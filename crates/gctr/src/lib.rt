@@ -31,6 +31,33 @@ pub fn encipher(tables: &[u32], expanded: &[u8; 240], b: Block) -> [u8; 16]
     encrypt_block(tables, expanded, store(b))
 }
 
+// The sums of a block of src and of the stream. They are made before any is written, so that the compiler need not ask whether `src` and the
+// output overlap.
+fn sums(stream: [u8; 16], src: &[u8], at: usize) -> [u8; 16]
+    requires { ⌜ at + 16 ≤ length (now src) ⌝ }
+    ensures { λ r. ⌜ r ≡ xors 16 (drop at (now (src .entry))) stream ⌝ }
+{
+    let mut out = [0u8; 16];
+    let mut j: usize = 0;
+    while j < 16 {
+        out[j] = src[at + j] ^ stream[j];
+        j += 1;
+    }
+    out
+}
+
+// A block to a place of out.
+fn put_block(block: [u8; 16], at: usize, out: &mut [u8])
+    requires { ⌜ at + 16 ≤ length (now out) ⌝ }
+    ensures { λ _. ⌜ now (out .exit) ≡ paste (now (out .entry)) at block 16 ⌝ }
+{
+    let mut j: usize = 0;
+    while j < 16 {
+        out[at + j] = block[j];
+        j += 1;
+    }
+}
+
 // The n octets of src from a place on, each added to one of the stream, to the same places of out.
 fn add_octets(stream: [u8; 16], src: &[u8], at: usize, n: usize, out: &mut [u8])
     requires { ⌜ (n ≤ 16) × (at + n ≤ length (now src)) × (length (now src) ≤ length (now out)) ⌝ }
@@ -43,8 +70,7 @@ fn add_octets(stream: [u8; 16], src: &[u8], at: usize, n: usize, out: &mut [u8])
     }
 }
 
-// The same for as many octets as a block has at most; how many. A whole block, as all but the last are, has a call of its own, whose count the
-// compiler knows.
+// The same for as many octets as a block has at most; how many. All but the last block are whole.
 fn add_stream(stream: [u8; 16], src: &[u8], at: usize, out: &mut [u8]) -> usize
     requires { ⌜ at ≤ length (now src) ⌝ }
     requires { ⌜ length (now src) ≤ length (now out) ⌝ }
@@ -52,7 +78,7 @@ fn add_stream(stream: [u8; 16], src: &[u8], at: usize, out: &mut [u8]) -> usize
 {
     let n = src.len() - at;
     if 16 <= n {
-        add_octets(stream, src, at, 16, out);
+        put_block(sums(stream, src, at), at, out);
         return 16;
     }
     add_octets(stream, src, at, n, out);
