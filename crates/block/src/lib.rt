@@ -42,8 +42,8 @@ fn joined(a: u8, b: u8, c: u8, d: u8) -> u32
     a as u32 * 0x0100_0000 + b as u32 * 0x0001_0000 + c as u32 * 0x0100 + d as u32
 }
 
-// The eight octets from `at` on, all of them inside: a whole block is read with no test for each octet. They are joined by fours, which the
-// compiler makes one load of; eight at once it does not.
+// The eight octets from `at` on, all of them inside: a whole block is read with no test for each octet. They are joined by fours: of eight at
+// once the compiler made no load that is wider than an octet, and of fours it does for the second.
 fn word_inside(s: &[u8], at: usize) -> u64
     requires { ⌜ at + 8 ≤ length (now s) ⌝ }
     ensures { λ r. ⌜ r ≡ number 8 (drop at (now (s .entry))) ⌝ }
