@@ -1,4 +1,4 @@
-/* The link security module, called from C or C++: load an image, secure a frame, check a frame, cut a call short.
+/* The link security module, called from C or C++: load an image, secure a frame, check a frame, manage associations, cut a call short.
  *
  * The module's scope paper decides what it does; what it decides is said here in short, so that this file can be used alone.
  *
@@ -11,10 +11,11 @@
  * position of the body), then k bodies of 52 octets; all in all 2 + 56 k octets, numbers big-endian. Keep it where it outlives a loss of
  * power: a call stores into it one octet at a time, and what a loss leaves after any of these stores is an image to load again.
  * Octet 6 of a body is the virtual channel. In version 2, for telemetry, it is a set of channels, the lowest bit for channel 0, and not 0: one
- * association, with one number, for all of them.
+ * association, with one number, for all of them. The window of an operational body is 1 to 1,024; that of another body may be any, as a loss
+ * of power in a window change can leave any.
  *
- * The managed numbers are uint32_t[32], element i for entry i: the last number sent or accepted. They are made by xistalvo_load and
- * changed by xistalvo_secure and xistalvo_check. They need not outlive a loss of power; load again after it. numbers_length counts
+ * The managed numbers are uint32_t[32], element i for entry i: the last number sent, accepted or set. They are made by xistalvo_load and
+ * changed by xistalvo_secure, xistalvo_check and xistalvo_command. They need not outlive a loss of power; load again after it. numbers_length counts
  * elements and must be 32: with another count no numbers agree with any image, and the answer is 2 (or 1, which comes first).
  *
  * Calls on one image must follow one another; calls on different images and numbers may run at the same time. */
@@ -92,6 +93,37 @@ extern "C" {
 /* An output of this many octets is long enough for every result. */
 #define XISTALVO_LARGEST_FRAME 2048
 
+/* The commands, by their first octet, the tag. Two octets follow with the length of the value, and then the value, nothing behind it. The first
+ * field of a value is the SPI, in 2 octets; a number has 12 octets, of which the first 8 are 0. xistalvo_command.h lays commands out. */
+#define XISTALVO_TAG_READ_NUMBER 0x10 /* SPI */
+#define XISTALVO_TAG_SET_WINDOW 0x15  /* SPI, window (2 octets) */
+#define XISTALVO_TAG_REKEY 0x16       /* SPI, key ID (2) and number (12), both 0 */
+#define XISTALVO_TAG_EXPIRE 0x19      /* SPI */
+#define XISTALVO_TAG_SET_NUMBER 0x1A  /* SPI, number (12) */
+#define XISTALVO_TAG_START 0x1B       /* SPI, one channel or more (4 each) */
+#define XISTALVO_TAG_STOP 0x1E        /* SPI */
+#define XISTALVO_TAG_STATUS 0x1F      /* SPI */
+#define XISTALVO_TAG_PING 0x31        /* nothing */
+
+/* The tag of a reply is its command's with the first bit set. Replies are laid out as commands are. */
+#define XISTALVO_TAG_OF_REPLY(tag) ((tag) | 0x80)
+
+/* The octets of a command, tag and length counted: stop, expire, status and read number are alike. And those of the three replies. */
+#define XISTALVO_START_LENGTH(channels) (5 + 4 * (channels))
+#define XISTALVO_SPI_ALONE_LENGTH 5
+#define XISTALVO_REKEY_LENGTH 19
+#define XISTALVO_SET_NUMBER_LENGTH 17
+#define XISTALVO_SET_WINDOW_LENGTH 7
+#define XISTALVO_PING_LENGTH 3
+#define XISTALVO_STATUS_REPLY_LENGTH 6       /* SPI, state (1) */
+#define XISTALVO_READ_NUMBER_REPLY_LENGTH 17 /* SPI, number (12) */
+#define XISTALVO_PING_REPLY_LENGTH 3         /* nothing */
+#define XISTALVO_LARGEST_REPLY 17
+
+/* Limits: of the window of an association that starts, and of one step of set number. */
+#define XISTALVO_LARGEST_WINDOW 1024
+#define XISTALVO_LARGEST_STEP 1024
+
 /* What a call answers. The first that applies is given, in the order that each call names below. */
 enum xistalvo_answer {
     XISTALVO_DONE = 0,                /* Done. */
@@ -107,10 +139,14 @@ enum xistalvo_answer {
     /* 9 is free: it was a padding error, which no call ever gave. */
     XISTALVO_NUMBERS_USED_UP = 10,    /* The last number is already 4,294,967,295; nothing more can be sent. */
     XISTALVO_SECURED_TOO_LONG = 11,   /* The secured frame would be longer than its kind allows. */
-    XISTALVO_CHECK_FIELD_DIFFERS = 12 /* The check field is not that of the octets before it. */
+    XISTALVO_CHECK_FIELD_DIFFERS = 12, /* The check field is not that of the octets before it. */
+    XISTALVO_BAD_COMMAND = 13,        /* No such tag, or not the length that the tag has. */
+    XISTALVO_UNKNOWN_SPI = 14,        /* No entry has the command's SPI. */
+    XISTALVO_WRONG_STATE = 15,        /* The association's state does not allow the command. */
+    XISTALVO_VALUE_REFUSED = 16       /* A channel, window, number or key ID that is not allowed. */
 };
 
-/* Load, secure and check return one number: bits 0 to 31 hold the length of the result in octets, bits 32 to 39 the number of octets
+/* Load, secure, check and command return one number: bits 0 to 31 hold the length of the result in octets, bits 32 to 39 the number of octets
  * stored in the image, 0 to 16, and bits 40 to 47 the answer. Bits 48 to 63 are 0. A refusal has length 0 and no stores. */
 #define XISTALVO_ANSWER(result) ((unsigned int)(((result) >> 40) & 0xFFu))
 #define XISTALVO_STORES(result) ((unsigned int)(((result) >> 32) & 0xFFu))
@@ -158,6 +194,30 @@ uint64_t xistalvo_ground_secure(uint8_t *image, size_t image_length, uint32_t *n
 uint64_t xistalvo_ground_check(uint8_t *image, size_t image_length, uint32_t *numbers, size_t numbers_length, uint8_t kind,
                                uint8_t check_field, const uint8_t *frame, size_t frame_length, uint8_t *output, size_t output_length);
 
+/* Carries out one management command: octets as a desk sends them, which the caller has checked to be a desk's (xistalvo_check).
+ *
+ * The state goes from unkeyed by rekey to keyed, by start to operational, by stop back to keyed and by expire back to unkeyed; each asks for the
+ * state that it leaves. Key, number and mark stay through all of them. Direction and kind make no difference.
+ *
+ * Answers, in this order: 1; 2; 13; 14, for every command but ping; 15; 16; 6, where the output is shorter than the reply; 0.
+ * 15: start where the state is not keyed, stop where it is not operational, expire where it is not keyed, rekey where it is not unkeyed, set
+ * window where it is operational. Set number, status, read number and ping are for every state.
+ * 16: start where a channel that it names is not the association's, or the window is not 1 to 1,024; rekey where key ID or number is not 0; set
+ * window where the window is not 1 to 1,024; set number where the number n is not above numbers[i], above numbers[i] + 1,024 or above
+ * 4,294,967,295, over whole numbers, where i is the entry.
+ * A channel is named by 4 octets, one number with zeros in front: version (2 bits: 00 for TC and TM, 01 for AOS), spacecraft (10 bits, for AOS
+ * 8), virtual channel (6 bits, for TM 3), and for TC with segment header the MAP (6 bits). A start names one channel or more; where the
+ * association has a set, each one named has to be in it, and all of the set are served, whichever were named.
+ * Done: first the stores, one octet each, counted: start, stop, expire and rekey 1, the state; set window 2, the window's first octet and then
+ * its second, also where they stay the same; set number 0 to 16, which raise the mark one at a time to n/64 rounded down, and then numbers[i]
+ * becomes n; the others none. Then the reply fills the start of the output, and the length is its length: for status the SPI and the state
+ * as they are, for read number the SPI and numbers[i], for ping no value; the other commands have no reply, and their length is 0. The rest of
+ * the output, the rest of the image and the other numbers stay.
+ * Refused: image, numbers and output stay as they were. The command is never written.
+ * A loss of power leaves the image after the first j of the stores, for some j, which loads; of set number these are those of xistalvo_raise. */
+uint64_t xistalvo_command(uint8_t *image, size_t image_length, uint32_t *numbers, size_t numbers_length, const uint8_t *command,
+                          size_t command_length, uint8_t *output, size_t output_length);
+
 /* The cut: what a call that took this number leaves of the image when power fails after its first stores.
  *
  * Makes, of the octet stores that raise the mark of this entry one at a time to number/64 rounded down, the first as many as 'stores'
@@ -165,7 +225,7 @@ uint64_t xistalvo_ground_check(uint8_t *image, size_t image_length, uint32_t *nu
  * An image whose version is not 1 or 2, whose count is above 32 or whose length is not 2 + 56 k, and an entry that is not below the count
  * k: none is made and 0 returned. No other rule of the image is tested; the mark is where the layout puts it, in the last 4 octets of the body at
  * 2 + 4 k + 52 entry, whatever the contents say of its position.
- * Only those octets of the image are written. Securing and checking make all their stores before they write the output. */
+ * Only those octets of the image are written. Securing, checking and commands make all their stores before they write the output. */
 uint32_t xistalvo_raise(uint8_t *image, size_t image_length, uint8_t entry, uint32_t number, uint32_t stores);
 
 /* Says an answer in words. */
@@ -184,6 +244,10 @@ static inline const char *xistalvo_answer_name(unsigned int answer)
     case XISTALVO_NUMBERS_USED_UP: return "numbers used up";
     case XISTALVO_SECURED_TOO_LONG: return "secured frame would be too long";
     case XISTALVO_CHECK_FIELD_DIFFERS: return "check field differs";
+    case XISTALVO_BAD_COMMAND: return "no such command, or of another length";
+    case XISTALVO_UNKNOWN_SPI: return "no association has the SPI";
+    case XISTALVO_WRONG_STATE: return "state does not allow the command";
+    case XISTALVO_VALUE_REFUSED: return "value not allowed";
     default: return "no answer of the module";
     }
 }

@@ -21,7 +21,7 @@ struct xistalvo_association {
     uint16_t spacecraft; /* 0 to 1,023, for AOS 0 to 255 */
     uint8_t channel;     /* 0 to 63, for TM 0 to 7; for TM in version 2 a set, 1 to 255: bit c for channel c */
     uint8_t map;         /* 0 to 63 for TC with segment header, else 0 */
-    uint16_t window;     /* 1 to 1,024 */
+    uint16_t window;     /* 1 to 1,024; any, where the state is not operational */
     uint8_t mask[6];     /* a bit 1 puts the header's bit under the MAC; for TC without segment header the last octet is 0 */
     uint8_t key[32];
     uint32_t mark; /* 0 in a new image; below 67,108,864 */
@@ -59,8 +59,8 @@ static inline const char *xistalvo_association_fault(unsigned int version, const
     if (association->map > (kind == XISTALVO_TC_SEGMENT ? 63 : 0)) {
         return "a MAP is 0 to 63 with a segment header, else 0";
     }
-    if (association->window < 1 || association->window > 1024) {
-        return "a window is 1 to 1,024";
+    if (association->state == XISTALVO_OPERATIONAL && (association->window < 1 || association->window > XISTALVO_LARGEST_WINDOW)) {
+        return "a window is 1 to 1,024 where the state is operational";
     }
     if (kind == XISTALVO_TC && association->mask[5] != 0) {
         return "for TC without segment header the last octet of the mask is 0";

@@ -13,6 +13,8 @@ uint64_t xistalvo64_ground_secure(uint8_t *image, uint64_t image_length, uint32_
                                   uint64_t output_length);
 uint64_t xistalvo64_ground_check(uint8_t *image, uint64_t image_length, uint32_t *numbers, uint64_t numbers_length, uint8_t kind,
                                  uint8_t check_field, const uint8_t *frame, uint64_t frame_length, uint8_t *output, uint64_t output_length);
+uint64_t xistalvo64_command(uint8_t *image, uint64_t image_length, uint32_t *numbers, uint64_t numbers_length, const uint8_t *command,
+                            uint64_t command_length, uint8_t *output, uint64_t output_length);
 uint32_t xistalvo64_raise(uint8_t *image, uint64_t image_length, uint8_t entry, uint32_t number, uint32_t stores);
 
 _Static_assert(sizeof(size_t) == 4, "where a size_t has 64 bits, the module's functions are the header's");
@@ -48,6 +50,12 @@ uint64_t xistalvo_ground_check(uint8_t *image, size_t image_length, uint32_t *nu
 {
     return xistalvo64_ground_check(image, image_length, numbers, numbers_length, kind, check_field, frame, frame_length, output,
                                    output_length);
+}
+
+uint64_t xistalvo_command(uint8_t *image, size_t image_length, uint32_t *numbers, size_t numbers_length, const uint8_t *command,
+                          size_t command_length, uint8_t *output, size_t output_length)
+{
+    return xistalvo64_command(image, image_length, numbers, numbers_length, command, command_length, output, output_length);
 }
 
 uint32_t xistalvo_raise(uint8_t *image, size_t image_length, uint8_t entry, uint32_t number, uint32_t stores)

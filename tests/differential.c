@@ -5,10 +5,11 @@
  *
  * An input is one call. Inputs come in worlds: two ends of a link with random associations, and about forty calls on them. The generator of
  * world W is made from the seed and W alone, so --from W takes a run up there. At the end the answers are counted by call, kind and service
- * of the association that the input was made for, TM associations with a set of channels and TM frames with a secondary header apart; a long
- * run that misses an answer that can be reached fails, and a longer one that misses a length of a secondary header, with a check field or
- * without, or changed no frame with both in each bit. */
+ * of the association that the input was made for, TM associations with a set of channels and TM frames with a secondary header apart; those to
+ * commands by tag, and what they asked for at limits; a long run that misses an answer or a limit that can be reached fails, and a longer one
+ * that misses a length of a secondary header, with a check field or without, or changed no frame with both in each bit. */
 #include "support/both.h"
+#include "support/commands.h"
 #include "support/options.h"
 #include "support/worlds.h"
 
@@ -16,8 +17,13 @@
 #include <stdio.h>
 #include <string.h>
 
-enum { CALLS_PER_WORLD = 40, KINDS = 4, SET_ROW = KINDS + 1, STAMP_ROW, ROWS, ANSWERS = 13, ENOUGH_FOR_EVERY_ANSWER = 50000 };
+enum { CALLS_PER_WORLD = 40, KINDS = 4, SET_ROW = KINDS + 1, STAMP_ROW, ROWS, ANSWERS = 17, ENOUGH_FOR_EVERY_ANSWER = 50000, ENOUGH_FOR_EVERY_LIMIT = 150000 };
 enum { MOST_SECONDARY = 64, ENOUGH_FOR_EVERY_LENGTH = 200000 }; /* octets of a secondary header */
+
+/* Windows and numbers of commands, at their limits: the window that a body has or a command asks for, and the step that set number asks for. */
+enum { LIMITS = 5 };
+static const uint32_t window_limits[LIMITS] = {0, 1, 1024, 1025, 65535};
+static const uint32_t step_limits[LIMITS] = {0, 1, 1024, 1025, 1088};
 
 struct run {
     struct options options;
@@ -33,6 +39,12 @@ struct run {
     /* call; kind, or 0 for a number that names none, SET_ROW for a TM association with a set, or STAMP_ROW for a TM frame whose header flag is
      * 1; service, or 0 for an empty image; answer */
     uint64_t tally[3][ROWS][3][ANSWERS];
+    uint64_t commands[TAG_COUNT + 1][ANSWERS];       /* tag, or any that names none; answer */
+    uint64_t starts[3][ROWS][3];                     /* version; kind; done, refused by 15, by 16 */
+    uint64_t windows_held[3][LIMITS];                /* state; window of the body, of starts */
+    uint64_t windows_asked[3][LIMITS];               /* state; window of set window */
+    uint64_t steps[2][LIMITS];                       /* well below the last number of all, or close to it; step of set number */
+    uint64_t raises_set[MOST_STORES + 1];            /* set number, done, by its stores */
 };
 
 /* The entry that an input is made for. An empty image has none, and gets an association that it does not hold. */
@@ -376,6 +388,60 @@ static bool is_stamped(const struct input *input)
     return input->kind == 3 && input->frame_length > 4 && (input->frame[4] & 0x80) != 0;
 }
 
+static void count_limit(uint64_t counts[LIMITS], const uint32_t limits[LIMITS], uint64_t value)
+{
+    for (size_t i = 0; i < LIMITS; i++) {
+        counts[i] += limits[i] == value;
+    }
+}
+
+static uint64_t octets_as_number(const uint8_t *octets, size_t count)
+{
+    uint64_t number = 0;
+    for (size_t i = 0; i < count; i++) {
+        number = number << 8 | octets[i];
+    }
+    return number;
+}
+
+/* What was asked for, of the commands of the right form that were about the target. */
+static void count_limits(struct run *run, const struct input *input, const struct target *target, const struct outcome *outcome, uint32_t last)
+{
+    const struct association *association = &target->association;
+    const uint8_t *rest = input->frame + 5;
+    unsigned row = association->has_set ? SET_ROW : association->kind;
+    if (outcome->answer != 0 && outcome->answer != 15 && outcome->answer != 16) {
+        return;
+    }
+    switch (input->frame[0]) {
+    case TAG_START:
+        run->starts[input->image[0]][row][outcome->answer == 0 ? 0 : outcome->answer - 14]++;
+        count_limit(run->windows_held[association->state], window_limits, association->window);
+        break;
+    case TAG_SET_WINDOW:
+        count_limit(run->windows_asked[association->state], window_limits, octets_as_number(rest, 2));
+        break;
+    case TAG_SET_NUMBER:
+        count_limit(run->steps[last > UINT32_MAX - 1024], step_limits, octets_as_number(rest + 4, 8) - last);
+        if (outcome->answer == 0) {
+            run->raises_set[outcome->stores]++;
+        }
+        break;
+    default:
+        break;
+    }
+}
+
+static void count_command(struct run *run, const struct input *before, const struct target *target, const struct outcome *outcome)
+{
+    size_t row = before->frame_length == 0 ? TAG_COUNT : index_of_tag(before->frame[0]);
+    run->inputs++;
+    run->commands[row][outcome->answer]++;
+    if (target->is_held && before->frame_length >= 5 && octets_as_number(before->frame + 3, 2) == target->association.spi) {
+        count_limits(run, before, target, outcome, before->numbers[target->entry]);
+    }
+}
+
 static void count_outcome(struct run *run, const struct input *input, const struct target *target, const struct outcome *outcome)
 {
     unsigned kind = input->which == CALL_LOAD ? target->association.kind : input->kind;
@@ -401,6 +467,9 @@ static unsigned spi_of(const struct input *input)
     struct header header;
     if (input->which == CALL_SECURE) {
         return input->spi;
+    }
+    if (input->which == CALL_COMMAND) {
+        return input->frame_length < 5 ? 0 : (unsigned)octets_as_number(input->frame + 3, 2);
     }
     if (!read_secured_frame(input->kind, input->check_field != 0, input->frame, input->frame_length, &header)) {
         return 0;
@@ -436,7 +505,11 @@ static struct outcome run_input(struct run *run, struct input *input, const stru
     static struct input before;
     before = *input;
     struct outcome outcome = both_run(&run->random, input);
-    count_outcome(run, input, target, &outcome);
+    if (input->which == CALL_COMMAND) {
+        count_command(run, &before, target, &outcome);
+    } else {
+        count_outcome(run, input, target, &outcome);
+    }
     if (input->which != CALL_LOAD && random_percent(&run->random, 5)) {
         try_isolation(run, &before, target, &outcome, input);
     }
@@ -475,8 +548,11 @@ static void try_round_trip(struct run *run, const struct input *sent, const stru
     if (!serves_channel(&table.entries[target->entry], clear.channel)) {
         return;
     }
-    table.entries[target->entry].state = 2;
-    set_table(other, &table);
+    if (table.entries[target->entry].state != 2) {
+        table.entries[target->entry].state = 2;
+        any_window(random, &table.entries[target->entry]);
+        set_table(other, &table);
+    }
     uint32_t window = table.entries[target->entry].window;
     set_number(other, target->entry, number - random_between(random, 1, number < window ? number : window));
 
@@ -648,6 +724,28 @@ static void try_check(struct run *run, struct end *end)
     run_input(run, &input, &target, end);
 }
 
+/* Mostly on a copy of the end, so that not all associations come to rest. */
+static void try_command(struct run *run, struct end *own)
+{
+    static struct input input;
+    struct random *random = &run->random;
+    struct end copy = *own;
+    struct end *end = random_percent(random, 75) ? &copy : own;
+    struct target target = any_target(run, end, random_between(random, 1, 2));
+    unsigned tag = every_tag[random_below(random, TAG_COUNT)];
+    if (target.is_held) {
+        suit_command(random, end, target.entry, tag, &target.association);
+    }
+    input_of_end(&input, CALL_COMMAND, end);
+    make_command(random, &input, tag, &target.association, end->numbers[target.entry]);
+    if (random_percent(random, 15)) {
+        break_command(random, &input);
+    }
+    any_output(random, &input, reply_length(tag) == 0 ? 1 : reply_length(tag));
+    break_rest(random, &input);
+    run_input(run, &input, &target, end);
+}
+
 static void try_raise(struct run *run, const struct end *end)
 {
     static struct input input;
@@ -682,7 +780,9 @@ static void run_world(struct run *run, uint64_t number)
             try_load(run, &world.ends[side]);
         } else if (chance < 16) {
             try_raise(run, &world.ends[side]);
-        } else if (chance < 55) {
+        } else if (chance < 36) {
+            try_command(run, &world.ends[side]);
+        } else if (chance < 65) {
             try_secure(run, &world, side);
         } else {
             try_check(run, &world.ends[side]);
@@ -691,6 +791,101 @@ static void run_world(struct run *run, uint64_t number)
 }
 
 /* ---- counting ---- */
+
+static unsigned print_limits(const char *name, size_t rows, const uint64_t (*counts)[LIMITS], const uint32_t limits[LIMITS])
+{
+    unsigned faults = 0;
+    printf("%s", name);
+    for (size_t row = 0; row < rows; row++) {
+        for (size_t i = 0; i < LIMITS; i++) {
+            printf("%s%" PRIu32 ": %" PRIu64, i == 0 ? "; " : ", ", limits[i], counts[row][i]);
+            faults += counts[row][i] == 0;
+        }
+    }
+    putchar('\n');
+    return faults;
+}
+
+/* 14 needs a command with an SPI; 15 and 16 are for those that ask for a state and a value, and 6 for those that have a reply. */
+static bool command_can_give(size_t tag, unsigned answer)
+{
+    if (tag == TAG_COUNT) {
+        return answer == 1 || answer == 2 || answer == 13;
+    }
+    switch (answer) {
+    case 0: case 1: case 2: case 13:
+        return true;
+    case 6:
+        return reply_length(every_tag[tag]) != 0;
+    case 14:
+        return every_tag[tag] != TAG_PING;
+    case 15:
+        return every_tag[tag] != TAG_SET_NUMBER && reply_length(every_tag[tag]) == 0;
+    case 16:
+        return every_tag[tag] == TAG_START || every_tag[tag] == TAG_REKEY || every_tag[tag] == TAG_SET_WINDOW || every_tag[tag] == TAG_SET_NUMBER;
+    default:
+        return false;
+    }
+}
+
+static unsigned print_starts(const struct run *run)
+{
+    static const char *const names[ROWS] = {"-", "1", "2", "3", "4", "set"};
+    unsigned faults = 0;
+    printf("starts done, refused by 15 and by 16, by version and kind:");
+    for (unsigned version = 1; version <= 2; version++) {
+        for (unsigned row = 1; row < ROWS; row++) {
+            bool can_be = row == SET_ROW ? version == 2 : row != 3 || version == 1;
+            const uint64_t *counts = run->starts[version][row];
+            if (can_be) {
+                printf(" %u/%s %" PRIu64 " %" PRIu64 " %" PRIu64, version, names[row], counts[0], counts[1], counts[2]);
+                for (unsigned i = 0; i < 3; i++) {
+                    faults += counts[i] == 0;
+                }
+            }
+        }
+    }
+    putchar('\n');
+    return faults;
+}
+
+static unsigned print_commands(const struct run *run)
+{
+    static const unsigned answers[] = {0, 1, 2, 13, 14, 15, 16, 6};
+    unsigned faults = 0;
+    printf("%-14s", "command");
+    for (size_t i = 0; i < sizeof answers / sizeof answers[0]; i++) {
+        printf(" %8u", answers[i]);
+    }
+    putchar('\n');
+    for (size_t tag = 0; tag <= TAG_COUNT; tag++) {
+        printf("%-14s", tag == TAG_COUNT ? "no such tag" : tag_names[tag]);
+        for (size_t i = 0; i < sizeof answers / sizeof answers[0]; i++) {
+            printf(" %8" PRIu64, run->commands[tag][answers[i]]);
+        }
+        putchar('\n');
+        for (unsigned answer = 0; answer < ANSWERS; answer++) {
+            faults += (run->commands[tag][answer] != 0) != command_can_give(tag, answer);
+        }
+    }
+    return faults;
+}
+
+/* What commands asked for, at limits. An operational body has no window outside 1 to 1,024. */
+static unsigned print_asked(const struct run *run)
+{
+    unsigned faults = print_starts(run);
+    faults += print_limits("windows of bodies that were to start, by state 0, 1", 2, run->windows_held, window_limits);
+    faults += print_limits("windows asked for, by state 0, 1, 2", 3, run->windows_asked, window_limits);
+    faults += print_limits("steps asked for, and close to the last number", 2, run->steps, step_limits);
+    printf("numbers set, by their stores, 0 to %d:", MOST_STORES);
+    for (unsigned stores = 0; stores <= MOST_STORES; stores++) {
+        printf(" %" PRIu64, run->raises_set[stores]);
+        faults += run->raises_set[stores] == 0;
+    }
+    putchar('\n');
+    return faults;
+}
 
 static bool is_empty(const uint64_t answers[ANSWERS])
 {
@@ -785,7 +980,8 @@ int main(int argument_count, char **arguments)
     while (run.inputs < run.options.count) {
         run_world(&run, world++);
     }
-    unsigned faults = print_tally(&run);
+    unsigned faults = print_tally(&run) + print_commands(&run);
+    unsigned never_asked = print_asked(&run);
     unsigned missing = print_secondary(&run, 0) + print_secondary(&run, 1) + (run.stamped_flips == 0);
     faults += run.options.count >= ENOUGH_FOR_EVERY_LENGTH ? missing : 0;
     printf("differential: seed %" PRIu64 ", %" PRIu64 " inputs in %" PRIu64 " worlds, of them %" PRIu64 " cuts and %" PRIu64
@@ -794,6 +990,10 @@ int main(int argument_count, char **arguments)
            run.options.seed, run.inputs, world - run.options.from, run.raises, run.isolations, run.round_trips, run.flips, run.stamped_flips);
     if (faults != 0 && run.options.count >= ENOUGH_FOR_EVERY_ANSWER) {
         printf("differential: %u of the counts above are 0 and should not be, or the other way round\n", faults);
+        return 1;
+    }
+    if (never_asked != 0 && run.options.count >= ENOUGH_FOR_EVERY_LIMIT) {
+        printf("differential: %u of the counts of what commands asked for are 0\n", never_asked);
         return 1;
     }
     return 0;

@@ -2,7 +2,8 @@
  *
  *   keeping [--seed S] [--count N] [--from W]
  *
- * A run is a process that sends frames, or checks frames that were sent, and is killed: between any two of its system calls or in the middle
+ * A run is a process that sends frames, or checks frames that were sent, and between them stops, changes and starts its association by
+ * management commands, and is killed: between any two of its system calls or in the middle
  * of a write, as a number of the run says, or from outside at a random moment; one in ten is left alone. Three ways are tried: a file; memory behind a driver, one octet
  * at a time; and memory that is lent to the module itself. A process that is killed hands its files and its shared memory on, and nothing
  * else. Over all runs of an end, demand 3: each number that went out exceeds those before, and so does each that was released, with the data
@@ -11,6 +12,7 @@
 #include "support/both.h"
 #include "support/options.h"
 
+#include "../include/xistalvo_command.h"
 #include "../include/xistalvo_image.h"
 
 #include <fcntl.h>
@@ -102,7 +104,7 @@ struct link {
 };
 
 struct totals {
-    uint64_t frames, releases, kills;
+    uint64_t frames, releases, kills, stopped /* associations that a kill left so */;
 };
 static struct totals totals;
 
@@ -120,14 +122,15 @@ static uint32_t number_after_load(const uint8_t *image)
     return numbers[0];
 }
 
-/* The memory's driver. A loss of power after this octet leaves an image whose mark has risen by one. */
+/* The memory's driver. A loss of power after this octet leaves an image whose mark has risen by one, or stays where another field is stored. */
 static bool drive(void *driver, size_t address, uint8_t octet)
 {
     uint32_t before = number_after_load(driver);
+    uint32_t raise = address < XISTALVO_AT_BODY(1, 0) + XISTALVO_IN_MARK ? 0 : 64;
     step();
     *((volatile uint8_t *)driver + address) = octet;
-    if (number_after_load(driver) != before + 64) {
-        both_fail("an octet was written that does not raise the mark by one");
+    if (number_after_load(driver) != before + raise) {
+        both_fail("an octet was written that does not raise the mark by one, or another field's that moves it");
     }
     step();
     return true;
@@ -162,13 +165,70 @@ static void tell(int pipe_end, const void *octets, size_t length)
     }
 }
 
+/* ---- management between frames ---- */
+
+/* Carries out a command; it is kept at once, or with the next one. */
+static void manage(struct link *link, unsigned end, struct kept *kept, const uint8_t *command, size_t length, unsigned answer)
+{
+    uint8_t none[1];
+    uint64_t result = xistalvo_command(lent(link, end, kept), LENGTH, kept->numbers, XISTALVO_NUMBERS, command, length, none, 0);
+    if (XISTALVO_ANSWER(result) != answer) {
+        both_fail("a command is answered otherwise than the state that was kept says");
+    }
+    step();
+    if (random_percent(&watch.random, 60) && !keep(link, end, kept)) {
+        both_fail("an image could not be kept after a command");
+    }
+}
+
+static void start_association(struct link *link, unsigned end, struct kept *kept)
+{
+    uint8_t command[32];
+    const uint32_t name = xistalvo_channel_name(XISTALVO_TC, 27, 5, 0);
+    manage(link, end, kept, command, xistalvo_make_start(SPI, &name, 1, command, sizeof command), XISTALVO_DONE);
+}
+
+/* A window from those that differ in both octets, of which one new and one old are outside 1 to 1,024. */
+static void set_window(struct link *link, unsigned end, struct kept *kept)
+{
+    uint8_t command[32];
+    uint16_t window = (uint16_t)RANDOM_OF(&watch.random, 1024, 999, 768, 1023);
+    manage(link, end, kept, command, xistalvo_make_set_window(SPI, window, command, sizeof command), XISTALVO_DONE);
+}
+
+/* What a process that was killed may have left: an association that is stopped, with any window. */
+static void reopen(struct link *link, unsigned end, struct kept *kept)
+{
+    if (lent(link, end, kept)[XISTALVO_AT_BODY(1, 0) + XISTALVO_IN_STATE] != XISTALVO_OPERATIONAL) {
+        set_window(link, end, kept);
+        start_association(link, end, kept);
+    }
+}
+
+/* Stops the association and starts it again with another window; now and then the sender's number is set. */
+static void manage_association(struct link *link, unsigned end, struct kept *kept)
+{
+    uint8_t command[32];
+    manage(link, end, kept, command, xistalvo_make_spi_alone(XISTALVO_TAG_STOP, SPI, command, sizeof command), XISTALVO_DONE);
+    set_window(link, end, kept);
+    if (end == 0 && random_percent(&watch.random, 30)) {
+        uint32_t number = kept->numbers[0] + random_between(&watch.random, 1, 200);
+        manage(link, end, kept, command, xistalvo_make_set_number(SPI, number, command, sizeof command), XISTALVO_DONE);
+    }
+    start_association(link, end, kept);
+}
+
 /* Sends until it is killed or has sent enough. The data are the number of the frame's random stream. */
 static void send_frames(struct link *link, int pipe_end)
 {
     static struct kept kept;
     uint8_t clear[5 + DATA_LENGTH] = {0x00, 27, 5 << 2, sizeof clear - 1, 0}, output[FRAME_LENGTH];
     start(link, 0, &kept);
+    reopen(link, 0, &kept);
     for (unsigned i = 0; i < MOST_FRAMES; i++) {
+        if (random_percent(&watch.random, 3)) {
+            manage_association(link, 0, &kept);
+        }
         random_octets(&watch.random, clear + 5, DATA_LENGTH);
         uint64_t result = xistalvo_secure(lent(link, 0, &kept), LENGTH, kept.numbers, XISTALVO_NUMBERS, XISTALVO_TC,
                                           XISTALVO_NO_CHECK_FIELD, SPI, clear, sizeof clear, output, sizeof output);
@@ -185,9 +245,13 @@ static void check_frames(struct link *link, int pipe_end)
     static struct kept kept;
     struct frame released;
     start(link, 1, &kept);
+    reopen(link, 1, &kept);
     for (size_t i = 0; i < link->sent_count; i += random_between(&watch.random, 0, 3)) {
         if (random_percent(&watch.random, 10) && i >= 5) {
             i -= 5;
+        }
+        if (random_percent(&watch.random, 3)) {
+            manage_association(link, 1, &kept);
         }
         memcpy(&released, &link->sent[i], sizeof released);
         uint64_t result = xistalvo_check(lent(link, 1, &kept), LENGTH, kept.numbers, XISTALVO_NUMBERS, XISTALVO_TC,
@@ -230,13 +294,20 @@ static void note_released(struct link *link, const struct frame *frame)
 
 /* ---- runs ---- */
 
+static uint8_t state_kept(struct link *link, unsigned end)
+{
+    static struct kept kept;
+    start(link, end, &kept);
+    return kept.image[XISTALVO_AT_BODY(1, 0) + XISTALVO_IN_STATE];
+}
+
 static void run_end(struct link *link, unsigned end, struct random *random)
 {
     int ends[2];
     struct frame frame;
     uint32_t moment = random_below(random, 1500);
     bool is_left_alone = random_percent(random, 10);
-    bool is_from_outside = !is_left_alone && (random_percent(random, 50) || link->way == LENT_ITSELF);
+    bool is_from_outside = !is_left_alone && random_percent(random, 50);
     uint32_t steps = random_between(random, 1, 60);
     watch.random = random_stream(random_any(random), 0);
     if (pipe(ends) != 0) {
@@ -263,6 +334,7 @@ static void run_end(struct link *link, unsigned end, struct random *random)
         both_fail("an end of the link failed by itself");
     }
     totals.kills += WIFSIGNALED(status) != 0;
+    totals.stopped += state_kept(link, end) != XISTALVO_OPERATIONAL;
 }
 
 /* A new link. Its marks are a little below a multiple of 256, where a raise changes another octet than the last. */
@@ -301,7 +373,7 @@ static void try_way(enum way way, struct options options)
     link.way = way;
     link.memory[0] = shared_memory();
     link.memory[1] = shared_memory();
-    totals = (struct totals){0, 0, 0};
+    totals = (struct totals){0, 0, 0, 0};
     for (uint64_t i = 0; i < options.count; i++) {
         struct random random = random_stream(options.seed, options.from + i);
         both_at(options.seed, options.from + i, (uint64_t)way);
@@ -316,11 +388,12 @@ static void try_way(enum way way, struct options options)
     unlink("receiver");
     unlink("receiver.new");
     rmdir(folder);
-    if (totals.releases == 0 || totals.kills == 0) {
-        both_fail("nothing was released, or nothing killed");
+    if (totals.releases == 0 || totals.kills == 0 || (totals.stopped == 0 && options.count >= 200)) {
+        both_fail("nothing was released, nothing killed, or no association left stopped");
     }
-    printf("%s: %" PRIu64 " kills in %" PRIu64 " runs, %" PRIu64 " frames sent, %" PRIu64 " released\n", way_names[way], totals.kills,
-           2 * options.count, totals.frames, totals.releases);
+    printf("%s: %" PRIu64 " kills in %" PRIu64 " runs, %" PRIu64 " frames sent, %" PRIu64 " released; %" PRIu64
+           " times an association was left stopped\n",
+           way_names[way], totals.kills, 2 * options.count, totals.frames, totals.releases, totals.stopped);
 }
 
 int main(int argument_count, char **arguments)

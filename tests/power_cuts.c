@@ -1,20 +1,24 @@
-/* Random runs of loads, sendings and checks at both ends of a link, with power failing after any stored octet, and demand 3 of document 01
- * held to what really went out and was really released, association by association, over all channels of one together:
+/* Random runs of loads, sendings, checks and management commands at both ends of a link, with power failing after any stored octet, and demand 3
+ * of document 01, as request 5 of document 02 has it, held to what really went out and was really released, association by association, over
+ * all channels of one together:
  *
  *   no number goes out twice, and none is released twice;
- *   numbers only rise;
- *   a sent number exceeds the one before by at most 1 plus 64 for each load between them.
+ *   numbers only rise, through stop, expire, rekey, start, windows and set number;
+ *   a sent number exceeds the one before by at most 1 plus 64 for each load between them, where no set number, whole or cut, came between.
  *
- * And of demand 2: what one end secures the other releases where its number is in the window, and refuses by 8 where it is not.
+ * And of demand 2: what one end secures the other releases where its number is in the window, and refuses by 8 where it is not; and by 4 where the
+ * association is not operational there.
  *
  *   power_cuts [--seed S] [--count N] [--from W]
  *
- * The count is of steps; a run has 400 of them. A cut call is the first j stores of the call it cuts, made by xistalvo_raise, and hands out
- * nothing; every j is tried on a copy, one is kept, and the end loads again, as it must after power was lost.
+ * The count is of steps; a run has 400 of them. A cut call is the first j stores of the call it cuts, made by xistalvo_raise, or of a command
+ * with the state or the window in the paper's order, and hands out nothing; every j is tried on a copy, one is kept, and the end loads again,
+ * as it must after power was lost.
  *
  * Runs with an even number look at the module alone: what they conclude owes nothing to the independent reading, which only lays out and
  * reads images there. In the others each call is compared with it too (support/both.h). */
 #include "support/both.h"
+#include "support/commands.h"
 #include "support/options.h"
 #include "support/worlds.h"
 
@@ -22,7 +26,7 @@
 #include <stdio.h>
 #include <string.h>
 
-enum { STEPS_PER_RUN = 400, MOST_ASSOCIATIONS = 4, FRAMES_KEPT = 200, SMALL_FRAME = 128 };
+enum { STEPS_PER_RUN = 400, ENOUGH_FOR_EVERY_COMMAND = 20000, MOST_ASSOCIATIONS = 4, FRAMES_KEPT = 200, SMALL_FRAME = 128 };
 
 /* A frame on the way, as the sending end handed it out. */
 struct sent_frame {
@@ -39,6 +43,7 @@ struct history {
     uint32_t sent;
     unsigned channel; /* of the last frame sent */
     uint64_t loads_since; /* at the sending end, since the last sending */
+    bool is_lifted;       /* a set number came between, at the sending end */
     bool has_released;
     uint32_t released;
     size_t frame_count;
@@ -54,6 +59,9 @@ struct run {
     struct input input;   /* the call that is prepared */
     bool is_tampered;     /* its frame is not as it was sent */
     uint64_t steps, loads, sent, changes /* of the channel under one association */, released, refused, cut_sendings, cut_checks, cuts_tried;
+    uint64_t commands[TAG_COUNT], cut_commands[TAG_COUNT]; /* done, and cut */
+    uint64_t lifted;                                       /* sendings after a set number */
+    uint64_t odd_windows;                                  /* windows outside 1 to 1,024 that a cut left */
 };
 
 static void association_of(const struct run *run, size_t side, size_t entry, struct association *association)
@@ -92,7 +100,7 @@ static void note_sent(struct run *run, struct history *history, uint32_t number,
     if (history->has_sent && number <= history->sent) {
         both_fail("demand 3: a number went out that does not exceed the one before");
     }
-    if (history->has_sent && (uint64_t)number - history->sent > 1 + 64 * history->loads_since) {
+    if (history->has_sent && !history->is_lifted && (uint64_t)number - history->sent > 1 + 64 * history->loads_since) {
         both_fail("demand 3: a number went out that exceeds the one before by more than 1 plus 64 for each load");
     }
     run->changes += history->has_sent && channel != history->channel;
@@ -100,6 +108,8 @@ static void note_sent(struct run *run, struct history *history, uint32_t number,
     history->channel = channel;
     history->sent = number;
     history->loads_since = 0;
+    run->lifted += history->has_sent && history->is_lifted;
+    history->is_lifted = false;
     run->sent++;
 }
 
@@ -169,8 +179,8 @@ static void send(struct run *run, size_t side, size_t entry)
     prepare_sending(run, side, entry, &association);
     bool is_last = run->input.numbers[entry] == UINT32_MAX;
     struct outcome outcome = both_run(&run->random, &run->input);
-    if (outcome.answer != (is_last ? 10 : 0)) {
-        both_fail("demand 2: a frame was not secured, or a number was left where none is");
+    if (outcome.answer != (association.state != 2 ? 4 : is_last ? 10 : 0)) {
+        both_fail("demand 2: a frame was not secured, or a number was left where none is, or the association is not operational");
     }
     if (outcome.answer != 0) {
         run->refused++;
@@ -214,7 +224,7 @@ static void check(struct run *run, size_t side, size_t entry)
     uint32_t last = run->input.numbers[entry];
     bool is_in_window = last < frame->number && frame->number - last <= association.window;
     struct outcome outcome = both_run(&run->random, &run->input);
-    bool is_served = serves_channel(&association, header_in(frame->frame, frame->length, &association).channel);
+    bool is_served = association.state == 2 && serves_channel(&association, header_in(frame->frame, frame->length, &association).channel);
     if (!run->is_tampered && outcome.answer != (!is_served ? 4 : is_in_window ? 0 : 8)) {
         both_fail("demand 2: a frame as it was sent was not released in the window, or not refused by 8 outside it or by 4 for its channel");
     }
@@ -230,26 +240,176 @@ static void check(struct run *run, size_t side, size_t entry)
     }
 }
 
+/* ---- commands ---- */
+
+/* The command that brings an association nearer to serving. */
+static void prepare_way_back(struct run *run, const struct association *association)
+{
+    struct input *input = &run->input;
+    bool is_allowed = 1 <= association->window && association->window <= 1024;
+    if (association->state == 0) {
+        put_rekey(input, association->spi);
+    } else if (!is_allowed) {
+        put_set_window(input, association->spi, random_between(&run->random, 64, 1024));
+    } else {
+        put_start(input, association->spi, name_of_channel(association, any_channel(&run->random, association)));
+    }
+}
+
+/* Any command about the association, or, where it is at rest, mostly the one that it needs. */
+static void prepare_command(struct run *run, size_t side, size_t entry, struct association *association)
+{
+    struct input *input = &run->input;
+    association_of(run, side, entry, association);
+    input_of_end(input, CALL_COMMAND, &run->world.ends[side]);
+    uint32_t chance = random_below(&run->random, 100);
+    if (association->state != 2 && chance < 45) {
+        prepare_way_back(run, association);
+    } else if (association->state != 2 && chance < 75) {
+        make_command(&run->random, input, chance < 55 ? TAG_EXPIRE : TAG_SET_WINDOW, association, input->numbers[entry]);
+    } else {
+        make_command(&run->random, input, every_tag[random_below(&run->random, TAG_COUNT)], association, input->numbers[entry]);
+    }
+    input->output_length = SMALL_FRAME;
+}
+
+/* The entry that the prepared command names, which need not be the one it was made for; the count where it names none. */
+static size_t entry_named(const struct run *run, size_t side)
+{
+    struct association association;
+    size_t entry = 0;
+    for (; entry < run->count; entry++) {
+        association_of(run, side, entry, &association);
+        if (run->input.frame_length >= 5 && run->input.frame[3] * 256u + run->input.frame[4] == association.spi) {
+            break;
+        }
+    }
+    return entry;
+}
+
+/* Where set number is done or cut, the limit of what goes out next is lifted, if this end is the one that sends. */
+static void note_command(struct run *run, size_t side, size_t entry, unsigned tag)
+{
+    struct association association;
+    association_of(run, side, entry, &association);
+    if (tag == TAG_SET_NUMBER && association.direction == 1) {
+        run->histories[entry].is_lifted = true;
+    }
+}
+
+static uint32_t number_of_reply(const uint8_t *reply)
+{
+    return (uint32_t)reply[13] << 24 | (uint32_t)reply[14] << 16 | (uint32_t)reply[15] << 8 | reply[16];
+}
+
+/* What a done command leaves, seen without the reading's command: the entry as it says, and every other octet as it was. */
+static void judge_command(const struct end *before, const struct end *after, size_t entry, const struct input *input)
+{
+    struct table table;
+    uint8_t expected[LARGEST_IMAGE];
+    unsigned tag = input->frame[0];
+    uint32_t last = before->numbers[entry], last_after = after->numbers[entry];
+    table_of(before, &table);
+    struct association *changed = &table.entries[entry];
+    if (tag == TAG_STATUS && input->output[5] != changed->state) {
+        both_fail("status gives another state than the image holds");
+    }
+    if (tag == TAG_READ_NUMBER && number_of_reply(input->output) != last) {
+        both_fail("read number gives another number than the last");
+    }
+    switch (tag) {
+    case TAG_START: changed->state = 2; break;
+    case TAG_STOP: case TAG_REKEY: changed->state = 1; break;
+    case TAG_EXPIRE: changed->state = 0; break;
+    case TAG_SET_WINDOW: changed->window = input->frame[5] * 256u + input->frame[6]; break;
+    case TAG_SET_NUMBER: changed->mark = last_after / 64; break;
+    default: break;
+    }
+    if (write_image(&table, expected) != after->image_length || memcmp(after->image, expected, after->image_length) != 0) {
+        both_fail("a done command left the image otherwise than it says");
+    }
+    if (tag == TAG_SET_NUMBER ? last_after <= last || last_after - last > 1024 : last_after != last) {
+        both_fail("a command moved a number that it must not move, or otherwise than up by 1 to 1,024");
+    }
+}
+
+static void command(struct run *run, size_t side, size_t for_entry)
+{
+    struct association association;
+    struct end before = run->world.ends[side];
+    prepare_command(run, side, for_entry, &association);
+    size_t entry = entry_named(run, side);
+    struct outcome outcome = both_run(&run->random, &run->input);
+    if (outcome.answer != 0) {
+        run->refused++;
+        return;
+    }
+    end_of_input(&run->world.ends[side], &run->input);
+    run->commands[index_of_tag(run->input.frame[0])]++;
+    if (entry < run->count) {
+        judge_command(&before, &run->world.ends[side], entry, &run->input);
+        note_command(run, side, entry, run->input.frame[0]);
+    }
+}
+
 /* ---- cuts ---- */
 
-/* The image after the first j stores: it loads, with the mark j higher, and once all are made it is the one that the whole call leaves. */
-static void try_cut(struct run *run, const struct end *end, size_t entry, uint32_t number, uint32_t j, const struct input *whole,
-                    uint32_t stores)
+/* Makes the first j stores of a call in the image, and gives how many were made. Those of sending, checking and set number raise a mark; other
+ * commands store the state, or the window's first octet and then its second, each as the whole command leaves it. */
+static uint32_t store_first(struct run *run, uint8_t *image, size_t entry, const struct input *whole, uint32_t j)
+{
+    size_t body = 2 + 4u * image[1] + 52 * entry;
+    unsigned tag = whole->which == CALL_COMMAND ? whole->frame[0] : TAG_SET_NUMBER;
+    uint32_t made = 0;
+    switch (tag) {
+    case TAG_SET_NUMBER:
+        return both_raise(&run->random, image, whole->image_length, (uint8_t)entry, whole->numbers[entry], j);
+    case TAG_START: case TAG_STOP: case TAG_REKEY: case TAG_EXPIRE:
+        for (; made < j && made < 1; made++) {
+            image[body + 3] = whole->image[body + 3];
+        }
+        return made;
+    case TAG_SET_WINDOW:
+        for (; made < j && made < 2; made++) {
+            image[body + 8 + made] = whole->image[body + 8 + made];
+        }
+        return made;
+    default:
+        return 0;
+    }
+}
+
+/* The mark in an image, by a load. */
+static uint32_t mark_in(struct run *run, const struct end *end, const uint8_t *image, size_t entry)
 {
     static struct input input;
     input_of_end(&input, CALL_LOAD, end);
-    uint32_t made = both_raise(&run->random, input.image, input.image_length, (uint8_t)entry, number, j);
+    memcpy(input.image, image, input.image_length);
+    if (both_run(&run->random, &input).answer != 0) {
+        both_fail("an image does not load after a cut");
+    }
+    if (input.numbers[entry] % 64 != 63) {
+        both_fail("a load after a cut does not give 64m + 63");
+    }
+    return input.numbers[entry] / 64;
+}
+
+/* The image after the first j stores: it loads, with a mark that each raise made one higher and that no other store moved, and once all are
+ * made it is the one that the whole call leaves. */
+static void try_cut(struct run *run, const struct end *end, size_t entry, uint32_t j, const struct input *whole, uint32_t stores)
+{
+    static struct input input;
+    bool raises = whole->which != CALL_COMMAND || whole->frame[0] == TAG_SET_NUMBER;
+    input_of_end(&input, CALL_LOAD, end);
+    uint32_t made = store_first(run, input.image, entry, whole, j);
     if (made != (j < stores ? j : stores)) {
         both_fail("a cut made another number of stores than it was asked for");
     }
     if (j >= stores && memcmp(input.image, whole->image, whole->image_length) != 0) {
         both_fail("all stores of a cut call do not make the image of the whole call");
     }
-    if (both_run(&run->random, &input).answer != 0) {
-        both_fail("an image does not load after a cut");
-    }
-    if (input.numbers[entry] != 64 * (end->numbers[entry] / 64 + made) + 63) {
-        both_fail("a load after a cut does not give 64m + 63 for a mark that each store raised by one");
+    if (mark_in(run, end, input.image, entry) != end->numbers[entry] / 64 + (raises ? made : 0)) {
+        both_fail("a cut left another mark than that which each raise made one higher");
     }
     run->cuts_tried++;
 }
@@ -277,13 +437,13 @@ static bool cut_call(struct run *run, size_t side, size_t entry)
         run->refused++;
         return false;
     }
-    uint32_t number = whole.numbers[entry];
     for (uint32_t j = 0; j <= outcome.stores + 1; j++) {
-        try_cut(run, end, entry, number, j, &whole, outcome.stores);
+        try_cut(run, end, entry, j, &whole, outcome.stores);
     }
     uint32_t j = random_between(&run->random, 0, outcome.stores);
-    both_raise(&run->random, end->image, end->image_length, (uint8_t)entry, number, j);
-    if (j != 0) {
+    uint32_t mark = mark_in(run, end, end->image, entry);
+    store_first(run, end->image, entry, &whole, j);
+    if (mark_in(run, end, end->image, entry) != mark) {
         try_stale_numbers(run, end, &prepared);
     }
     load(run, side);
@@ -306,6 +466,20 @@ static void cut_check(struct run *run, size_t side, size_t entry)
     }
 }
 
+static void cut_command(struct run *run, size_t side, size_t for_entry)
+{
+    struct association association;
+    prepare_command(run, side, for_entry, &association);
+    size_t entry = entry_named(run, side);
+    unsigned tag = run->input.frame[0];
+    if (entry < run->count && cut_call(run, side, entry)) {
+        run->cut_commands[index_of_tag(tag)]++;
+        note_command(run, side, entry, tag);
+        association_of(run, side, entry, &association);
+        run->odd_windows += tag == TAG_SET_WINDOW && (association.window < 1 || association.window > 1024);
+    }
+}
+
 /* ---- runs ---- */
 
 /* All associations operational; the receiving end starts near the sending one, or far below it where the run is to show refusals. */
@@ -318,7 +492,7 @@ static void start_run(struct run *run, uint64_t number)
     for (size_t side = 0; side < 2; side++) {
         table_of(&run->world.ends[side], &table);
         for (size_t i = 0; i < run->count; i++) {
-            table.entries[i].state = 2;
+            table.entries[i].state = 2; /* so that most of a run is spent on frames */
             table.entries[i].window = random_percent(&run->random, 80) ? random_between(&run->random, 64, 1024) : 1;
         }
         set_table(&run->world.ends[side], &table);
@@ -335,8 +509,12 @@ static void step(struct run *run)
     size_t entry = random_below(&run->random, (uint32_t)run->count);
     association_of(run, 0, entry, &association);
     size_t sender = association.direction == 1 ? 0 : 1;
-    uint32_t chance = random_below(&run->random, 100);
-    if (chance < 3) {
+    uint32_t chance = random_below(&run->random, 124);
+    if (chance >= 109) {
+        command(run, random_below(&run->random, 2), entry);
+    } else if (chance >= 100) {
+        cut_command(run, random_below(&run->random, 2), entry);
+    } else if (chance < 3) {
         load(run, random_below(&run->random, 2));
     } else if (chance < 50) {
         send(run, sender, entry);
@@ -359,6 +537,25 @@ static void run_once(struct run *run, uint64_t number)
     }
 }
 
+static void print_commands(const struct run *run)
+{
+    printf("commands done and cut:");
+    for (size_t tag = 0; tag < TAG_COUNT; tag++) {
+        printf("%s %s %" PRIu64 " %" PRIu64, tag == 0 ? "" : ",", tag_names[tag], run->commands[tag], run->cut_commands[tag]);
+    }
+    printf("; %" PRIu64 " frames sent after a set number, %" PRIu64 " windows outside 1 to 1,024 left by cuts\n", run->lifted, run->odd_windows);
+}
+
+/* Every command was done, and every one that names an SPI was cut. */
+static bool commands_are_enough(const struct run *run)
+{
+    bool is_enough = run->lifted > 0 && run->odd_windows > 0;
+    for (size_t tag = 0; tag < TAG_COUNT; tag++) {
+        is_enough = is_enough && run->commands[tag] > 0 && (run->cut_commands[tag] > 0 || every_tag[tag] == TAG_PING);
+    }
+    return is_enough;
+}
+
 int main(int argument_count, char **arguments)
 {
     static struct run run;
@@ -368,12 +565,14 @@ int main(int argument_count, char **arguments)
     while (run.steps < run.options.count) {
         run_once(&run, number++);
     }
+    print_commands(&run);
     printf("power_cuts: seed %" PRIu64 ", %" PRIu64 " steps in %" PRIu64 " runs: %" PRIu64 " loads, %" PRIu64 " frames sent, %" PRIu64
            " of them of another channel than the one before, %" PRIu64 " released, %" PRIu64 " calls refused, %" PRIu64 " sendings and %" PRIu64 " checks cut, %" PRIu64
            " cuts tried; demand 3 held\n",
            run.options.seed, run.steps, number - run.options.from, run.loads, run.sent, run.changes, run.released, run.refused, run.cut_sendings,
            run.cut_checks, run.cuts_tried);
-    bool is_enough = run.sent > 0 && run.changes > 0 && run.released > 0 && run.cut_sendings > 0 && run.cut_checks > 0;
+    bool is_enough = run.sent > 0 && run.changes > 0 && run.released > 0 && run.cut_sendings > 0 && run.cut_checks > 0
+        && (run.options.count < ENOUGH_FOR_EVERY_COMMAND || commands_are_enough(&run));
     if (!is_enough) {
         puts("power_cuts: too few steps to show anything");
     }

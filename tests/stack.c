@@ -2,7 +2,7 @@
  * caller's frame that are no longer the pattern are those that the call took. Every call is done once over each of two patterns, so that an
  * octet that is written with the pattern itself does not count as unused. */
 #include "../include/xistalvo_stack.h"
-#include "../include/xistalvo.h"
+#include "../include/xistalvo_command.h"
 #include "independent/reading.h"
 
 #include <stdio.h>
@@ -52,6 +52,14 @@ static void call_ground_check(void)
 static void call_raise(void)
 {
     result = xistalvo_raise(images[0], image_length, MOST_ENTRIES - 1, 64 * 1000, 1000) == 1000 - 15 ? 0 : UINT64_MAX;
+}
+
+/* Set number, which stores 16 octets. */
+static void call_command(void)
+{
+    static uint8_t command[XISTALVO_SET_NUMBER_LENGTH];
+    xistalvo_make_set_number(MOST_ENTRIES, numbers[0][MOST_ENTRIES - 1] + XISTALVO_LARGEST_STEP, command, sizeof command);
+    result = xistalvo_command(images[0], image_length, numbers[0], NUMBER_COUNT, command, sizeof command, opened, sizeof opened);
 }
 
 static void (*current_call)(void);
@@ -153,6 +161,7 @@ int main(void)
     } calls[] = {{"load", call_load, XISTALVO_STACK},
                  {"secure", call_secure, XISTALVO_STACK},
                  {"check", call_check, XISTALVO_STACK},
+                 {"command", call_command, XISTALVO_STACK},
                  {"raise", call_raise, XISTALVO_STACK},
                  {"ground_secure", call_ground_secure, XISTALVO_GROUND_STACK},
                  {"ground_check", call_ground_check, XISTALVO_GROUND_STACK}};

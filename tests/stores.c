@@ -12,6 +12,7 @@
  *
  *   stores [--seed S] [--count N] [--from W] */
 #include "support/both.h"
+#include "support/commands.h"
 #include "support/guarded.h"
 #include "support/options.h"
 #include "support/worlds.h"
@@ -46,7 +47,7 @@ int main(void)
 #include <ucontext.h>
 #include <unistd.h>
 
-enum { MOST_STATES = 64, DATA_MOST = 60 };
+enum { MOST_STATES = 64, DATA_MOST = 60, ENOUGH_FOR_EVERY_COMMAND = 1000 };
 
 /* ---- one instruction ---- */
 
@@ -190,6 +191,9 @@ static void call_watched(struct input *input)
         (is_on_ground ? xistalvo_ground_secure : xistalvo_secure)(image_area.range, input->image_length, input->numbers, NUMBER_COUNT, input->kind,
                                                                   input->check_field, input->spi, input->frame, input->frame_length,
                                                                   output_area.range, input->output_length);
+    } else if (input->which == CALL_COMMAND) {
+        xistalvo_command(image_area.range, input->image_length, input->numbers, NUMBER_COUNT, input->frame, input->frame_length,
+                         output_area.range, input->output_length);
     } else {
         (is_on_ground ? xistalvo_ground_check : xistalvo_check)(image_area.range, input->image_length, input->numbers, NUMBER_COUNT, input->kind,
                                                                 input->check_field, input->frame, input->frame_length, output_area.range,
@@ -219,6 +223,8 @@ static bool states_are_cuts(const struct input *before, const struct effect *eff
 
 struct totals {
     uint64_t calls, done, refused, stores, states;
+    uint64_t commands[TAG_COUNT]; /* done */
+    uint64_t halves;              /* set window, seen with its first octet stored and its second not yet */
 };
 
 static void judge(const struct input *before, const struct effect *effect, struct totals *totals)
@@ -237,6 +243,10 @@ static void judge(const struct input *before, const struct effect *effect, struc
     totals->refused += effect->answer != 0;
     totals->stores += effect->store_count;
     totals->states += seen.state_count - 1;
+    if (before->which == CALL_COMMAND && effect->answer == 0) {
+        totals->commands[index_of_tag(before->frame[0])]++;
+        totals->halves += before->frame[0] == TAG_SET_WINDOW && seen.state_count == 3;
+    }
 }
 
 static void read_document(const struct input *input, struct effect *effect)
@@ -245,6 +255,8 @@ static void read_document(const struct input *input, struct effect *effect)
                         input->check_field != 0, input->spi, input->frame, input->frame_length, input->output_length};
     if (input->which == CALL_SECURE) {
         reading_secure(&call, effect);
+    } else if (input->which == CALL_COMMAND) {
+        reading_command(&call, effect);
     } else {
         reading_check(&call, effect);
     }
@@ -277,6 +289,34 @@ static void make_input(struct random *random, const struct end *end, struct inpu
     random_octets(random, input->output, input->output_length);
 }
 
+/* A command, of any tag, about an association in a state that it mostly fits; one in ten has another form. */
+static void make_command_input(struct random *random, struct end *end, struct input *input)
+{
+    struct table table;
+    struct association association;
+    unsigned tag = every_tag[random_below(random, TAG_COUNT)];
+    table_of(end, &table);
+    size_t entry = random_below(random, (uint32_t)table.count);
+    suit_command(random, end, entry, tag, &association);
+    input_of_end(input, CALL_COMMAND, end);
+    make_command(random, input, tag, &association, end->numbers[entry]);
+    if (random_percent(random, 10)) {
+        break_command(random, input);
+    }
+    input->output_length = random_percent(random, 90) ? 2 * DATA_MOST : random_below(random, 18);
+    random_octets(random, input->output, input->output_length);
+}
+
+/* Every command was watched being done, and a window was seen between its two stores. */
+static bool commands_are_enough(const struct totals *totals)
+{
+    bool is_enough = totals->halves > 0;
+    for (size_t tag = 0; tag < TAG_COUNT; tag++) {
+        is_enough = is_enough && totals->commands[tag] > 0;
+    }
+    return is_enough;
+}
+
 static void try_one(struct options options, uint64_t number, struct totals *totals)
 {
     static struct input input, before;
@@ -285,7 +325,11 @@ static void try_one(struct options options, uint64_t number, struct totals *tota
     struct random random = random_stream(options.seed, number);
     both_at(options.seed, number, 0);
     make_world(&random, &world, random_between(&random, 1, 4));
-    make_input(&random, &world.ends[0], &input);
+    if (random_percent(&random, 40)) {
+        make_command_input(&random, &world.ends[0], &input);
+    } else {
+        make_input(&random, &world.ends[0], &input);
+    }
     before = input;
     read_document(&input, &effect);
     call_watched(&input);
@@ -294,7 +338,7 @@ static void try_one(struct options options, uint64_t number, struct totals *tota
 
 int main(int argument_count, char **arguments)
 {
-    struct totals totals = {0, 0, 0, 0, 0};
+    static struct totals totals;
     struct options options = options_of(argument_count, arguments, 2000);
     if (RUNNING_ON_VALGRIND) {
         puts("stores: not run, valgrind has no trap flag");
@@ -310,6 +354,10 @@ int main(int argument_count, char **arguments)
     printf("stores: seed %" PRIu64 ", %" PRIu64 " calls, %" PRIu64 " done and %" PRIu64 " refused; %" PRIu64 " stores, %" PRIu64
            " of them seen singly; every image between two instructions was that of a cut, and no output came before the last store\n",
            options.seed, totals.calls, totals.done, totals.refused, totals.stores, totals.states);
+    if (options.count >= ENOUGH_FOR_EVERY_COMMAND && !commands_are_enough(&totals)) {
+        puts("stores: too few commands were watched");
+        return 1;
+    }
     return 0;
 }
 

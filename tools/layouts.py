@@ -391,7 +391,7 @@ def body():
             ("spacecraft", 2, NAMES, ["0 to 1,023;", "AOS to 255"]),
             ("virtual", 1, NAMES, ["*channel", "0-63;", "TM: see"]),
             ("MAP", 1, NAMES, ["kind 2:", "0-63,", "else 0"]),
-            ("window", 2, NUMBER, ["1 to 1,024"]),
+            ("window", 2, NUMBER, ["1 to 1,024", "in state 2"]),
             ("header mask", 6, FREE, ["any; for kind 1 the last octet is 0"]),
         ],
         [("AES-256 key, first half", 16, MAC, ["any"])],
@@ -417,12 +417,13 @@ def body():
     assert at == 52
     x = LEFT + 4 * UNIT + 24
     last = y - 54 - 34
-    p.text(x, last + 16, "The mark is the one field that the module writes.", 12.5, "start")
+    p.text(x, last + 16, "The module writes the mark, and by commands state and window.", 12.5, "start")
     p.text(x, last + 34, "Raising m by one changes one bit of the code, so one octet.", 12.5, "start")
     p.note(y, "service: 1 authentication, 2 authenticated encryption. kind: 1 TC, 2 TC with segment header, 3 TM, 4 AOS.")
     p.note(y + 18, "direction: 1 send, 2 receive. state: 0 unkeyed, 1 keyed, 2 operational. xor: exclusive or; m/2 is rounded down.")
     p.note(y + 36, "virtual channel of TM: 0 to 7 in version 1; in version 2 a set, 1 to 255, its lowest bit for channel 0.")
-    legend(p, y + 64, [(SORT, "which of several"), (NAMES, "names the channel"), (NUMBER, "for the number"), (MAC, "secret")])
+    p.note(y + 54, "window: 1 to 1,024 where the state is operational; in other states any, 0 to 65,535.")
+    legend(p, y + 82, [(SORT, "which of several"), (NAMES, "names the channel"), (NUMBER, "for the number"), (MAC, "secret")])
     return p
 
 
@@ -430,13 +431,13 @@ def body():
 
 
 def packed_result():
-    p = Picture("packed-result", "What load, secure and check return in C: one number of 64 bits")
+    p = Picture("packed-result", "What load, secure, check and command return in C: one number of 64 bits")
     heading(p, p.title, "Bit 0 is the least significant, on the right.")
     y = 96
     bit = FULL / 64
     fields = [
         ("0", 63, 48, FIXED, []),
-        ("answer", 47, 40, SORT, ["0 to 12"]),
+        ("answer", 47, 40, SORT, ["0 to 16"]),
         ("stores", 39, 32, NUMBER, ["0 to 16"]),
         ("length", 31, 0, LENGTH, ["octets of the result"]),
     ]
@@ -464,6 +465,110 @@ def packed_result():
         p.text(LEFT, y, " ".join([digits[:4], digits[4:6], digits[6:8], digits[8:]]), 13, "start")
         p.text(LEFT + 230, y, words, 13, "start")
     p.note(y + 30, "A refusal has length 0 and 0 stores.")
+    return p
+
+
+# ---- management commands
+
+TAG, SIZE, SPI = 64, 96, 84  # widths of the boxes that all have
+
+
+def command_row(p, y, name, tag, length, fields):
+    """Tag, length and the fields of the value, with the place of each above it. A field's octets may be a number or words."""
+    p.text(124, y + 31, name, 13, "end", "bold")
+    x, place = 136, 0
+    boxes = [(TAG, SORT, [tag, "tag"], 1), (SIZE, LENGTH, [length, "length"], 2)] + fields
+    for width, fill, lines, octets in boxes:
+        p.line(x, y - 14, x, y, SOFT)
+        p.text(x + 3, y - 5, str(place), 12, "start", colour=SOFT)
+        p.box(x, y, width, 48, fill, lines)
+        x += width
+        place = place + octets if isinstance(place, int) and isinstance(octets, int) else octets
+    p.line(x, y - 14, x, y, SOFT)
+    p.text(x + 3, y - 5, str(place), 12, "start", colour=SOFT)
+
+
+def commands():
+    p = Picture("commands", "Management commands and their replies")
+    heading(p, p.title, "Tags are in hex. The length counts the octets of the value, behind it. Numbers are big-endian.")
+    spi = (SPI, NUMBER, ["SPI", "2 octets"], 2)
+    number = (200, NUMBER, ["number", "12 octets, the first 8 are 0"], 12)
+    name = (122, NAMES, ["channel", "4 octets"], 4)
+    rows = [
+        ("start", "1B", "2 + 4N", [spi, name, (50, FREE, ["..."], "1+4N"), (132, NAMES, ["channel N", "4 octets"], "5+4N")]),
+        ("stop", "1E", "2", [spi]),
+        ("expire", "19", "2", [spi]),
+        ("rekey", "16", "16", [spi, (96, FIXED, ["key ID: 0", "2 octets"], 2), (200, FIXED, ["number: 0", "12 octets"], 12)]),
+        ("set window", "15", "4", [spi, (110, NUMBER, ["window", "2 octets"], 2)]),
+        ("set number", "1A", "14", [spi, number]),
+        ("status", "1F", "2", [spi]),
+        ("read number", "10", "2", [spi]),
+        ("ping", "31", "0", []),
+    ]
+    replies = [
+        ("status", "9F", "3", [spi, (84, SORT, ["state", "1 octet"], 1)]),
+        ("read number", "90", "14", [spi, number]),
+        ("ping", "B1", "0", []),
+    ]
+    y = 84
+    for row in rows:
+        command_row(p, y, *row)
+        y += 74
+    p.text(24, y + 6, "Replies: the command's tag with its first bit set", 14, "start", "bold")
+    y += 40
+    for row in replies:
+        command_row(p, y, *row)
+        y += 74
+    p.note(y - 4, "A start names N channels, one or more. The other commands have no reply.", 24)
+    meanings = [(SORT, "which of several"), (LENGTH, "says how long"), (NUMBER, "for the number"), (NAMES, "names a channel"), (FIXED, "fixed")]
+    legend(p, y + 22, meanings, 24)
+    return p
+
+
+def channel_names():
+    p = Picture("channel-names", "A channel as a start names it: 32 bits, by the kind of the association")
+    heading(p, p.title, "Zeros on the left, then the identifiers one behind the other. Widths are to scale.")
+    bit = FULL / 32
+    telecommand = [("version", 2, FIXED, "00"), ("spacecraft", 10, NAMES, "10 bits"), ("virtual channel", 6, NAMES, "6 bits")]
+    kinds = [
+        ("TC", telecommand),
+        ("segment", telecommand + [("MAP", 6, NAMES, "6 bits")]),
+        ("TM", [("version", 2, FIXED, "00"), ("spacecraft", 10, NAMES, "10 bits"), ("channel", 3, NAMES, "3 bits")]),
+        ("AOS", [("version", 2, FIXED, "01"), ("spacecraft", 8, NAMES, "8 bits"), ("virtual channel", 6, NAMES, "6 bits")]),
+    ]
+    y = 88
+    for i, (name, fields) in enumerate(kinds):
+        p.text(LEFT - 10, y + 24, f"kind {i + 1}", 12.5, "end", "bold")
+        p.text(LEFT - 10, y + 40, name, 12.5, "end")
+        zeros = 32 - sum(width for _, width, _, _ in fields)
+        x = LEFT
+        for label, width, fill, rule in [("0", zeros, FIXED, f"{zeros} bits")] + fields:
+            p.line(x, y - 14, x, y, SOFT)
+            p.text(x + 3, y - 5, str(round((x - LEFT) / bit)), 11.5, "start", colour=SOFT)
+            p.box(x, y, bit * width, 52, fill, [label, rule], sizes=(12, 12))
+            x += bit * width
+        y += 84
+    p.note(y - 8, "The name of spacecraft 27, channel 5: 000006C5 for TC, 0001B149 with MAP 9, 000000DD for TM, 000046C5 for AOS.")
+    p.note(y + 10, "An association with a set of channels has a name for each of them.")
+    return p
+
+
+def states():
+    p = Picture("states", "The states of an association, and the commands that lead from one to the other")
+    p.text(24, 26, p.title, 16, "start", "bold")
+    y, high, wide = 86, 76, 190
+    places = {"unkeyed": (24, FREE, "serves no frame"), "keyed": (384, FREE, "serves no frame"), "operational": (744, DATA, "serves frames")}
+    for state, (name, (x, fill, what)) in enumerate(places.items()):
+        p.box(x, y, wide, high, fill, [name, f"state {state}", what], sizes=(15, 12.5))
+    for left, right, forth, back in (("unkeyed", "keyed", "rekey", "expire"), ("keyed", "operational", "start", "stop")):
+        x1, x2 = places[left][0] + wide, places[right][0]
+        p.arrow([(x1, y + 24), (x2 - 1, y + 24)])
+        p.text((x1 + x2) / 2, y + 16, forth, 14, weight="bold")
+        p.arrow([(x2, y + 54), (x1 + 1, y + 54)])
+        p.text((x1 + x2) / 2, y + 71, back, 14, weight="bold")
+    p.bracket(24, 574, y + high + 14, ["set window: where no frame is served"])
+    p.bracket(24, 934, y + high + 58, ["set number, status, read number: in every state"])
+    p.note(y + high + 112, "From another state than the one that its arrow leaves, a command is answered by 15. Key and number stay.", 24)
     return p
 
 
@@ -562,10 +667,13 @@ def layers():
         "services": (24, 10, 320, DATA, "the two services, the security header"),
         "protection": (24, 11, 566, DATA, "the secured frame"),
         "judging": (24, 12, 566, DATA, "the tests of a call, in their order"),
-        "link": (24, 13, 566, DATA, "load, secure, check: judged, then carried out"),
-        "promises": (24, 14, 270, FREE, "theorems alone"),
-        "witnesses": (24, 15, 270, FREE, "that they are not empty"),
-        "link_c": (320, 14, 270, FREE, "the C interface"),
+        "link": (24, 13, 280, DATA, "load, secure, check: carried out"),
+        "procedures": (320, 13, 270, DATA, "what a command may call"),
+        "commands": (205, 14, 385, DATA, "the command call: decided, then carried out"),
+        "promises": (24, 14, 165, FREE, "theorems alone"),
+        "witnesses": (24, 15, 100, FREE, "not empty"),
+        "command_promises": (134, 15, 170, FREE, "theorems on commands"),
+        "link_c": (320, 15, 270, FREE, "the C interface"),
     }
     programs = {
         "link_cases": (7, "runs link"),
@@ -577,7 +685,9 @@ def layers():
         "lines": (1, "lines of text for them"),
     }
     arrows = [
-        ("witnesses", "promises", 159), ("promises", "link", 159), ("link_c", "link", 455), ("link", "judging", 307), ("judging", "protection", 307),
+        ("witnesses", "promises", 74), ("command_promises", "promises", 161), ("command_promises", "commands", 254), ("link_c", "commands", 455),
+        ("promises", "link", 106), ("commands", "link", 254), ("commands", "procedures", 455), ("link", "judging", 164),
+        ("procedures", "judging", 455), ("judging", "protection", 307),
         ("protection", "services", 184), ("protection", "frame", 437), ("services", "cmac", 80), ("services", "gcm", 244),
         ("association", "image", 616), ("image", "bodies", 616), ("bodies", "kinds", 537),
         ("bodies", "marks", 638), ("frame", "kinds", 437), ("kinds", "headers", 437), ("gcm", "gctr", 194), ("gcm", "ghash", 298),
@@ -619,7 +729,7 @@ def layers():
 
 
 PICTURES = [tc_header, tc_segment_header, tm_header, aos_header, lambda: secured(1), lambda: secured(2), check_field, image, body]
-PICTURES += [packed_result, layers, ground]
+PICTURES += [commands, channel_names, states, packed_result, layers, ground]
 
 
 def main(checking):

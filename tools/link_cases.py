@@ -1,7 +1,7 @@
 #!/usr/bin/env python3
 """Makes crates/link_cases/stdin, calls of the module, and crates/link_cases/stdout, what is expected to come back and to change.
 
-All of it is read off document 01, and requests 1, 2, 4 and 6 of document 02, here, over whole numbers and strings of octets, and not off the code;
+All of it is read off document 01, and requests 1, 2, 4, 5 and 6 of document 02, here, over whole numbers and strings of octets, and not off the code;
 AES is OpenSSL's. Each call below states the answer that the paper gives it, and the reading is held to that as well:
 
   python3 tools/link_cases.py        (needs the Python package `cryptography`)
@@ -91,7 +91,7 @@ def is_allowed(e):
         and e.channels()
         and max(e.channels()) <= (7 if e.kind == 3 else 63)
         and e.map <= (63 if e.kind == 2 else 0)
-        and 1 <= e.window <= 1024
+        and (e.state != 2 or 1 <= e.window <= 1024)
         and (e.kind != 1 or e.mask[5] == 0)
         and e.mark < 2**26
     )
@@ -297,8 +297,9 @@ def opened(e, kind, frame, field=False):
 @dataclass
 class Done:
     result: bytes = b""
-    entry: int = None
+    entry: int = None  # whose number it takes, raising the mark
     number: int = 0
+    stores: tuple = ()  # of other octets: place and value
 
 
 def disagrees(entries, numbers):
@@ -355,6 +356,81 @@ def checking(image, numbers, kind, field, frame, room):
     return Done(data, i, n)
 
 
+# Management commands: a tag, the value's length in 2 octets, the value
+
+START, STOP, REKEY, EXPIRE = 0b00011011, 0b00011110, 0b00010110, 0b00011001
+SET_NUMBER, SET_WINDOW, STATUS, READ_NUMBER, PING = 0b00011010, 0b00010101, 0b00011111, 0b00010000, 0b00110001
+# The octets of a value, and what a command asks of the state: 0 unkeyed, 1 keyed, 2 operational. Start has a channel or more.
+VALUES = {STOP: 2, REKEY: 16, EXPIRE: 2, SET_NUMBER: 14, SET_WINDOW: 4, STATUS: 2, READ_NUMBER: 2, PING: 0}
+STATES = {START: {1}, STOP: {2}, EXPIRE: {1}, REKEY: {0}, SET_WINDOW: {0, 1}}
+GOES_TO = {START: 2, STOP: 1, EXPIRE: 0, REKEY: 1}
+
+
+def tlv(tag, value=b""):
+    return bytes([tag]) + len(value).to_bytes(2, "big") + value
+
+
+def number_field(n):
+    return n.to_bytes(12, "big")
+
+
+def channel_names(e):
+    """Its channels as a start names them: version, spacecraft, channel and for kind 2 MAP, one behind the other at the right of 32 bits."""
+    wide = dict(spacecraft=8 if e.kind == 4 else 10, channel=3 if e.kind == 3 else 6, map=6 if e.kind == 2 else 0)
+    names = set()
+    for channel in e.channels():
+        digits = "01" if e.kind == 4 else "00"
+        for field, value in (("spacecraft", e.spacecraft), ("channel", channel), ("map", e.map)):
+            digits += format(value, "b").zfill(wide[field]) if wide[field] else ""
+        names.add(int(digits, 2).to_bytes(4, "big"))
+    return names
+
+
+def has_form(octets):
+    if len(octets) < 3 or int.from_bytes(octets[1:3], "big") != len(octets) - 3:
+        return False
+    tag, size = octets[0], len(octets) - 3
+    return VALUES.get(tag) == size or (tag == START and size >= 6 and (size - 2) % 4 == 0)
+
+
+def is_refused_value(e, last, tag, rest):
+    if tag == START:
+        named = {rest[at : at + 4] for at in range(0, len(rest), 4)}
+        return not named <= channel_names(e) or not 1 <= e.window <= 1024
+    n = int.from_bytes(rest, "big")
+    return {REKEY: n != 0, SET_WINDOW: not 1 <= n <= 1024, SET_NUMBER: not last < n <= min(last + 1024, MOST)}.get(tag, False)
+
+
+def managing(image, numbers, octets, room):
+    entries = read_image(image)
+    if entries is None:
+        return 1
+    if disagrees(entries, numbers):
+        return 2
+    if not has_form(octets):
+        return 13
+    tag, value = octets[0], octets[3:]
+    if tag == PING:
+        return 6 if room < 3 else Done(tlv(tag | 128))
+    found = [i for i, e in enumerate(entries) if e.spi == int.from_bytes(value[:2], "big")]
+    if not found:
+        return 14
+    i, rest = found[0], value[2:]
+    if entries[i].state not in STATES.get(tag, {0, 1, 2}):
+        return 15
+    if is_refused_value(entries[i], numbers[i], tag, rest):
+        return 16
+    if tag == SET_NUMBER:
+        return Done(entry=i, number=int.from_bytes(rest, "big"))
+    at = positions_of(len(entries))[i]
+    if tag == SET_WINDOW:
+        return Done(stores=((at + 8, rest[0]), (at + 9, rest[1])))
+    if tag in GOES_TO:
+        return Done(stores=((at + 3, GOES_TO[tag]),))
+    reply = tlv(tag | 128, value[:2] + (bytes([entries[i].state]) if tag == STATUS else number_field(numbers[i])))
+    return 6 if room < len(reply) else Done(reply)
+
+
 class Module:
     """The lines: the calls, and what is expected of each, on an image and numbers as they stand between calls."""
 
@@ -386,7 +462,9 @@ class Module:
             self.expect("answer %d" % reply, self.octets, self.numbers)
             return None
         assert answer in (0, None), (self.lines[-1], 0, answer)
-        octets, numbers, made = self.octets, list(self.numbers), 0
+        octets, numbers, made = self.octets, list(self.numbers), len(reply.stores)
+        for place, octet in reply.stores:
+            octets = octets[:place] + bytes([octet]) + octets[place + 1 :]
         if reply.entry is not None:
             mark = numbers[reply.entry] // 64
             made = reply.number // 64 - mark
@@ -426,6 +504,10 @@ class Module:
         room = len(frame) if room is None else room
         self.lines.append("check %02x %02x %04x %s" % (kind, field, room, frame.hex()))
         return self.came(checking(self.octets, self.numbers, kind, field, frame, room), answer, stores)
+
+    def manage(self, octets, answer, room=17, stores=None):
+        self.lines.append(("manage %04x %s" % (room, octets.hex())).rstrip())
+        return self.came(managing(self.octets, self.numbers, octets, room), answer, stores)
 
     def cut(self, entry, n, j, stores):
         """A call that raises the mark of the entry to that of n, cut after its first j stores."""
@@ -1073,6 +1155,222 @@ def orders(run):
     run.check(1, right, 0, room=6)
 
 
+# Management commands: each sentence of the request, and which of two refusals is given
+
+SPI_9 = b"\x00\x09"
+
+
+def start_of(e):
+    return tlv(START, e.spi.to_bytes(2, "big") + b"".join(sorted(channel_names(e))))
+
+
+def commands_for(e, last):
+    """Each command in a form that is done where the state is the one that it asks for; with the octets of its reply."""
+    spi = e.spi.to_bytes(2, "big")
+    yield start_of(e), 0
+    yield tlv(STOP, spi), 0
+    yield tlv(EXPIRE, spi), 0
+    yield tlv(REKEY, spi + bytes(14)), 0
+    yield tlv(SET_WINDOW, spi + b"\x03\xe7"), 0
+    yield tlv(SET_NUMBER, spi + number_field(last + 1)), 0
+    yield tlv(STATUS, spi), 6
+    yield tlv(READ_NUMBER, spi), 17
+    yield tlv(PING), 3
+
+
+def command_states(run):
+    for state in (0, 1, 2):
+        for e in (B, replace(RECEIVING, service=2, mark=70), replace(SEGMENT, mark=255), replace(TELEMETRY, version=2, channel=0x22), CAMERAS):
+            here = replace(e, state=state)
+            run.case("state %d, kind %d, direction %d: every command, with a right reply and a room that is one short" % (state, e.kind, e.direction))
+            for octets, size in commands_for(here, 64 * e.mark + 63):
+                answer = 0 if state in STATES.get(octets[0], {0, 1, 2}) else 15
+                run.fresh(here)
+                if size:
+                    run.manage(octets, 6, room=size - 1)
+                    run.manage(octets, 6, room=0)
+                run.manage(octets, answer, room=size)
+                run.load()
+
+
+def command_forms(run):
+    run.case("13: lengths one too short and one too long, counted and not; a length in bits; no value, no length, nothing")
+    run.fresh(replace(B, state=1))
+    for octets, _ in commands_for(B, 63):
+        tag, value = octets[0], octets[3:]
+        wrong = [tlv(tag, value + b"\x00"), octets + b"\x00", octets[:-1], octets[:2], octets[:1]]
+        wrong += [bytes([tag]) + n.to_bytes(2, "big") + value for n in (len(value) + 1, 8 * len(value) or 8, len(value) + 256, 65535)]
+        if value:
+            wrong += [tlv(tag, value[:-1]), tlv(tag), bytes([tag, 0, 0]) + value, tlv(tag, b"\x00\x0a" + value[2:] + b"\x00")]
+        for octets in wrong:
+            run.manage(octets, 13, room=0)
+    run.manage(b"", 13)
+    for tag, size in ((START, 0), (START, 3), (START, 5), (REKEY, 2), (SET_NUMBER, 4)):
+        run.manage(tlv(tag, SPI_9 + bytes(size)), 13)
+    run.case("13: every tag that is none, replies' among them, with an SPI and without")
+    for tag in range(256):
+        if tag not in VALUES and tag != START:
+            run.manage(tlv(tag, SPI_9), 13)
+            run.manage(tlv(tag), 13)
+    run.case("14: an SPI that is not in the table; there are three, of any direction and state, and each is found")
+    three = [replace(B, spi=0x109, state=0), replace(RECEIVING, spi=0x10A, state=1), replace(B, spi=0x209, state=2)]
+    run.fresh(*three)
+    for spi in (0, 9, 0x108, 0x10B, 0x209 ^ 0x800, 65535):
+        for octets, _ in commands_for(replace(B, spi=spi), 63):
+            run.manage(octets, 0 if octets[0] == PING else 14, room=3 if octets[0] == PING else 0)
+    for e in three:
+        run.manage(tlv(STATUS, e.spi.to_bytes(2, "big")), 0)
+    run.case("no entry at all: 14, and ping is answered")
+    run.fresh()
+    run.manage(tlv(STATUS, SPI_9), 14)
+    run.manage(tlv(PING), 0)
+
+
+def command_values(run):
+    run.case("16: rekey names key 0 and number 0")
+    run.fresh(replace(B, state=0, mark=3))
+    for i in range(14):
+        for octet in (1, 128):
+            run.manage(tlv(REKEY, SPI_9 + bytes(i) + bytes([octet]) + bytes(13 - i)), 16)
+    run.manage(tlv(REKEY, SPI_9 + bytes(14)), 0, stores=1)
+    run.case("windows 0, 1, 1,024, 1,025 and more: asked for, and held by a body that is to start, in every state")
+    for window in (0, 1, 255, 256, 1023, 1024, 1025, 1280, 32768, 65535):
+        is_right = 1 <= window <= 1024
+        for state in (0, 1, 2):
+            run.fresh(replace(B, state=state))
+            run.manage(tlv(SET_WINDOW, SPI_9 + window.to_bytes(2, "big")), 15 if state == 2 else 0 if is_right else 16)
+            run.image(image_of(replace(B, state=state, window=window)))
+            run.load(1 if state == 2 and not is_right else 0)
+            if state == 2 and not is_right:
+                run.number(0, 63)
+                run.manage(start_of(B), 1)
+                continue
+            run.manage(start_of(B), 15 if state != 1 else 0 if is_right else 16)
+            run.manage(tlv(SET_WINDOW, SPI_9 + b"\x00\x64"), 15 if run.octets[9] == 2 else 0)
+    run.case("set window makes both stores, also of an octet that stays")
+    run.fresh(replace(B, state=1))
+    for window in (b"\x00\x64", b"\x00\x65", b"\x01\x65", b"\x02\x01"):
+        run.manage(tlv(SET_WINDOW, SPI_9 + window), 0, stores=2)
+    run.case("set number: last, last + 1, last + 1,024, last + 1,025, and beside them; 0 to 16 stores")
+    for last in (0, 63, 64, 700, 16383, 2**31, MOST - 1088, MOST - 1025, MOST - 1024, MOST - 1023, MOST - 64, MOST - 1, MOST):
+        for step in (-64, -1, 0, 1, 2, 63, 64, 65, *range(128, 1024, 64), 1023, 1024, 1025, 1088):
+            if last + step >= 0:
+                n = last + step
+                run.stand(replace(B, state=step % 3), last)
+                is_right = 1 <= step <= 1024 and n <= MOST
+                run.manage(tlv(SET_NUMBER, SPI_9 + number_field(n)), 0 if is_right else 16, stores=n // 64 - last // 64 if is_right else None)
+                run.manage(tlv(READ_NUMBER, SPI_9), 0)
+    run.case("set number: a bit in each octet above a number that would do")
+    run.stand(B, 700)
+    for octet in range(4, 12):
+        for bit in (1, 128):
+            run.manage(tlv(SET_NUMBER, SPI_9 + number_field(701 + bit * 256**octet)), 16)
+    run.manage(tlv(SET_NUMBER, SPI_9 + number_field(701)), 0)
+
+
+def command_channels(run):
+    for e in (B, SEGMENT, TELEMETRY, CAMERAS, replace(CAMERAS, spacecraft=255, channel=63), replace(SEGMENT, spacecraft=1023, channel=63, map=63)):
+        for version in (1, 2) if e.kind != 3 else (1,):
+            here = replace(e, state=1, version=version)
+            (name,) = channel_names(here)
+            run.case("kind %d, version %d: the channel as it is named, and with each bit changed" % (e.kind, version))
+            run.fresh(here)
+            for bit in range(32):
+                run.manage(tlv(START, SPI_9 + (int.from_bytes(name, "big") ^ 1 << bit).to_bytes(4, "big")), 16)
+            others = [tlv(START, SPI_9 + x) for k in (1, 2, 3, 4) for x in channel_names(replace(e, kind=k, map=0)) if x != name]
+            for octets in [*others, tlv(START, SPI_9 + name + bytes(4)), tlv(START, SPI_9 + b"\xff" * 4 + name)]:
+                run.manage(octets, 16)
+            run.manage(tlv(START, SPI_9 + 5 * name), 0, stores=1)
+    run.case("a set: each of its channels, all of them, repeated, and every channel outside it")
+    for chosen in (0x01, 0x80, 0x22, 0xA7, 0xFF):
+        here = replace(TELEMETRY, version=2, state=1, channel=chosen)
+        for channel in range(8):
+            (name,) = channel_names(replace(here, version=1, channel=channel))
+            run.fresh(here)
+            is_own = chosen >> channel & 1
+            run.manage(tlv(START, SPI_9 + name), 0 if is_own else 16)
+            run.fresh(here)
+            run.manage(tlv(START, SPI_9 + b"".join(sorted(channel_names(here))) + name), 0 if is_own else 16)
+        run.fresh(here)
+        run.manage(start_of(here), 0)
+        for channel in range(8):
+            frame = tm(b"data", channel=channel)
+            run.secure(3, 9, frame, 0 if chosen >> channel & 1 else 4)
+
+
+def command_orders(run):
+    run.case("commands: 1 before 2, 2 before 13, 13 before 14, 14 before 15, 15 before 16, 16 or 14 before 6")
+    bad, unknown = tlv(START, SPI_9), tlv(SET_WINDOW, b"\x00\x0a\x00\x00")
+    run.number(0, 5000)
+    run.image(image_of(replace(B, window=0)))
+    run.manage(bad, 1, room=0)
+    run.image(image_of(B))
+    run.manage(bad, 2, room=0)
+    run.load()
+    run.manage(tlv(START, b"\x00\x0a"), 13, room=0)
+    run.manage(unknown, 14, room=0)
+    run.manage(tlv(STATUS, b"\x00\x0a"), 14, room=0)
+    run.manage(tlv(SET_WINDOW, SPI_9 + bytes(2)), 15, room=0)
+    run.manage(tlv(START, SPI_9 + b"\xff" * 4), 15, room=0)
+    run.manage(tlv(REKEY, SPI_9 + b"\xff" * 14), 15, room=0)
+    run.manage(tlv(SET_NUMBER, SPI_9 + number_field(63)), 16, room=0)
+    run.manage(tlv(STATUS, SPI_9), 6, room=5)
+    run.manage(tlv(READ_NUMBER, SPI_9), 6, room=16)
+    run.manage(tlv(PING), 6, room=2)
+    run.manage(tlv(SET_NUMBER, SPI_9 + number_field(64)), 0, room=0)
+    run.manage(tlv(STOP, SPI_9), 0, room=0)
+
+
+def managed_link(run):
+    run.case("stop, and nothing is sent; start, and the numbers go on; expire and rekey keep key and mark")
+    run.fresh(B)
+    sent = [run.secure(1, 9, C, 0)]
+    run.manage(tlv(STOP, SPI_9), 0)
+    run.secure(1, 9, C, 4)
+    run.manage(start_of(B), 0)
+    sent.append(run.secure(1, 9, C, 0))
+    for octets in (tlv(STOP, SPI_9), tlv(EXPIRE, SPI_9), tlv(REKEY, SPI_9 + bytes(14)), start_of(B)):
+        run.manage(octets, 0)
+    sent.append(run.secure(1, 9, C, 0))
+    run.manage(tlv(SET_NUMBER, SPI_9 + number_field(66 + 1024)), 0, stores=16)
+    sent.append(run.secure(1, 9, C, 0))
+    assert [opened(B, 1, frame)[0] for frame in sent] == [64, 65, 66, 1091]
+    run.case("set number, cut after each of its stores: a load, and a number above all that were sent")
+    for j in range(17):
+        run.fresh(B)
+        run.secure(1, 9, C, 0)
+        run.cut(0, 64 + 1024, j, min(j, 16))
+        run.load()
+        assert opened(B, 1, run.secure(1, 9, C, 0))[0] == 64 * (2 + j)
+    run.case("at the other end: stopped, it refuses by 4; a number that was set refuses what is below it, and takes what is above")
+    run.fresh(RECEIVING)
+    run.check(1, sent[0], 0)
+    run.manage(tlv(STOP, SPI_9), 0)
+    run.check(1, sent[1], 4)
+    run.manage(start_of(B), 0)
+    run.check(1, sent[1], 0)
+    run.manage(tlv(SET_NUMBER, SPI_9 + number_field(1000)), 0)
+    run.check(1, sent[2], 8)
+    run.check(1, sent[3], 0)
+    run.case("a window that is cut between its octets: it loads, start refuses it, and set window mends it")
+    for old, new, between in ((b"\x00\x64", b"\x04\x00", b"\x04\x64"), (b"\x04\x00", b"\x00\x64", b"\x00\x00")):
+        assert between == new[:1] + old[1:]
+        run.fresh(replace(B, state=1, window=int.from_bytes(between, "big")))
+        run.manage(start_of(B), 16)
+        run.manage(tlv(SET_WINDOW, SPI_9 + new), 0)
+        run.manage(start_of(B), 0)
+    run.case("three entries and 32: a command changes its own alone")
+    three = [replace(B, spi=8, mark=3), replace(B, spi=9, mark=0), replace(B, spi=10, mark=70)]
+    run.fresh(*three)
+    for e in three:
+        for octets, _ in commands_for(e, 64 * e.mark + 63):
+            run.manage(octets, None)
+    run.fresh(*(replace(B, spi=100 + 7 * i, state=i % 3, mark=i) for i in range(32)))
+    for i in (0, 1, 2, 29, 30, 31):
+        for octets, _ in commands_for(replace(B, spi=100 + 7 * i), 64 * i + 63):
+            run.manage(octets, None)
+
+
 def sends_in_a_row(run):
     run.case("sends in a row: a store at 64, at 128, and at none between them")
     run.fresh(B)
@@ -1111,6 +1409,12 @@ def main():
     entry_refusals(run)
     identifier_bits(run)
     orders(run)
+    command_states(run)
+    command_forms(run)
+    command_values(run)
+    command_channels(run)
+    command_orders(run)
+    managed_link(run)
     sends_in_a_row(run)
     longest(run)
     here = os.path.join(os.path.dirname(os.path.abspath(__file__)), "..", "crates", "link_cases")

@@ -1,7 +1,7 @@
 #!/usr/bin/env python3
 """Makes the images and the expected listings of crates/listing and crates/listing_cases, their files stdin and stdout.
 
-The rules are read off document 01 ('The image', 'The listing program') and document 02 (requests 1 and 2) here, and not off the code:
+The rules are read off document 01 ('The image', 'The listing program') and document 02 (requests 1, 2 and 5) here, and not off the code:
 
   python3 tools/listing_cases.py
 """
@@ -72,7 +72,7 @@ def body_ok(version, b):
         and b["spacecraft"] <= most_spacecraft
         and (b["channel"] != 0 if is_set else b["channel"] <= most_channel)
         and b["map"] <= most_map
-        and 1 <= b["window"] <= 1024
+        and (b["state"] != 2 or 1 <= b["window"] <= 1024)
         and (b["kind"] != 1 or b["mask"] % 256 == 0)
         and mark_of(b["code"]) < 2**26
     )
@@ -147,6 +147,10 @@ def wholes():
     yield "version 2, 32 entries, 1,794 octets", image(full, version=2)
     kinds = [entry(spi=1 + i, kind=1 + i % 4, channel=i // 4 + 1, state=i % 3) for i in range(32)]
     yield "version 2, every kind", image(kinds, version=2)
+    for window in (0, 1, 1024, 1025, 9999, 10000, 65535):
+        yield "window %s, unkeyed and keyed" % format(window, ","), image(three(dict(state=0, window=window), dict(state=1, window=window)))
+    longest = [dict(most, spi=65503 + i, code=gray(67108862 - i), state=i % 2, window=65535 - i) for i in range(32)]
+    yield "32 entries, none operational, the longest listing of all", image(longest)
     yield "kind 1 at its limits", image([entry(channel=63, spacecraft=1023, mask=0xFFFFFFFFFF00)])
 
 
@@ -206,6 +210,10 @@ def broken():
     yield "kind 3, channel 8", image([entry(kind=3, channel=8)])
     yield "kind 4, channel 64", image([entry(kind=4, channel=64)])
     yield "kind 4, spacecraft 256", image([entry(kind=4, spacecraft=256)])
+    for states in ((2, 1, 0), (0, 2, 1), (1, 0, 2)):
+        for window in (0, 1025, 65535):
+            name = "window %s in all of states %d, %d and %d" % (format(window, ","), *states)
+            yield name, image(three(*(dict(state=state, window=window) for state in states)))
     yield "mark 2^26", image([entry(code=gray(2**26))])
     yield "mark 2^32 - 1", image([entry(code=gray(2**32 - 1))])
     yield "a broken body behind 31 good ones", image(full[:31] + [entry(spi=32, window=0)])
@@ -223,7 +231,7 @@ def main():
     for name, data in broken():
         assert listing(data) == REFUSED, name
     cases = [*wholes(), *broken()]
-    assert max(len(listing(data)) for _, data in cases) == 1005
+    assert max(len(listing(data)) for _, data in cases) == 1037
     put("listing_cases", "stdin", "".join("# %s\n%s\n" % (name, data.hex()) for name, data in cases).encode())
     put("listing_cases", "stdout", "".join("# %s\n%s" % (name, listing(data)) for name, data in cases).encode())
     b = image([entry()])

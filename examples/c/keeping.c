@@ -89,17 +89,29 @@ bool kept_in_file(struct kept *kept, const char *path)
 
 /* ---- memory behind a driver ---- */
 
-/* The place of the mark of an entry, in an image that loads. */
-static size_t mark_of(const struct kept *kept, uint8_t entry)
+/* The place of a field of an entry, in an image that loads. */
+static size_t place_of(const struct kept *kept, uint8_t entry, size_t field)
 {
-    return (size_t)XISTALVO_AT_BODY(kept->image[XISTALVO_AT_COUNT], entry) + XISTALVO_IN_MARK;
+    return (size_t)XISTALVO_AT_BODY(kept->image[XISTALVO_AT_COUNT], entry) + field;
 }
 
-/* Makes the next store of this entry: the module says which octet it is, and the driver writes it. */
+static bool store_at(struct kept *kept, size_t place, uint8_t octet, store_octet *store, void *driver)
+{
+    if (kept->lasting[place] == octet) {
+        return true;
+    }
+    if (!store(driver, place, octet)) {
+        return false;
+    }
+    kept->lasting[place] = octet;
+    return true;
+}
+
+/* Makes the next store of this entry's mark: the module says which octet it is, and the driver writes it. */
 static bool store_next(struct kept *kept, uint8_t entry, store_octet *store, void *driver)
 {
     uint8_t next[XISTALVO_LARGEST_IMAGE];
-    size_t place = mark_of(kept, entry);
+    size_t place = place_of(kept, entry, XISTALVO_IN_MARK);
     memcpy(next, kept->lasting, kept->length);
     if (xistalvo_raise(next, kept->length, entry, kept->numbers[entry], 1) != 1) {
         return false; /* the numbers are not those of this image */
@@ -107,17 +119,29 @@ static bool store_next(struct kept *kept, uint8_t entry, store_octet *store, voi
     while (next[place] == kept->lasting[place]) {
         place++; /* one of the mark's four octets differs */
     }
-    if (!store(driver, place, next[place])) {
+    return store_at(kept, place, next[place], store, driver);
+}
+
+/* Brings window and state of this entry up to the image. Between its two octets a window may be any, so it is stored where the state is not
+ * operational; the state comes last. */
+static bool store_managed(struct kept *kept, uint8_t entry, store_octet *store, void *driver)
+{
+    size_t state = place_of(kept, entry, XISTALVO_IN_STATE), window = place_of(kept, entry, XISTALVO_IN_WINDOW);
+    bool is_changing = memcmp(kept->image + window, kept->lasting + window, 2) != 0;
+    if (is_changing && kept->lasting[state] == XISTALVO_OPERATIONAL && !store_at(kept, state, XISTALVO_KEYED, store, driver)) {
         return false;
     }
-    kept->lasting[place] = next[place];
-    return true;
+    return store_at(kept, window, kept->image[window], store, driver) && store_at(kept, window + 1, kept->image[window + 1], store, driver)
+        && store_at(kept, state, kept->image[state], store, driver);
 }
 
 bool kept_in_memory(struct kept *kept, store_octet *store, void *driver)
 {
     for (uint8_t entry = 0; entry < kept->image[XISTALVO_AT_COUNT]; entry++) {
-        size_t place = mark_of(kept, entry);
+        size_t place = place_of(kept, entry, XISTALVO_IN_MARK);
+        if (!store_managed(kept, entry, store, driver)) {
+            return false;
+        }
         while (memcmp(kept->image + place, kept->lasting + place, 4) != 0) {
             if (!store_next(kept, entry, store, driver)) {
                 return false;

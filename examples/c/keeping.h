@@ -6,7 +6,7 @@
  *     kept_start_from_file(&kept, "image")                       once, after every start: reads the image and loads it
  *     result = xistalvo_secure(kept.image, kept.length, kept.numbers, ..)
  *     if (XISTALVO_ANSWER(result) == XISTALVO_DONE && kept_in_file(&kept, "image"))
- *         send(..)                                               or, after a check: use the data
+ *         send(..)                                               or, after a check: use the data; after a command: send the reply
  *
  * Where keeping fails, nothing may be sent or used: the number is lost, and no harm done. The next call keeps what this one could not. */
 #ifndef KEEPING_H
@@ -33,7 +33,8 @@ bool kept_start(struct kept *kept, const uint8_t *image, size_t length);
 bool kept_in_file(struct kept *kept, const char *path);
 
 /* The same for memory behind a driver, which writes one octet and returns when it lasts. The stores are made in the module's own order, one
- * by one, so that a loss of power leaves the image after the first j of them. */
+ * by one, so that a loss of power leaves the image after the first j of them. Where several commands could not be kept before, an association
+ * whose window changed is stored as keyed first, so that each octet leaves an image that loads. */
 typedef bool store_octet(void *driver, size_t address, uint8_t octet);
 bool kept_in_memory(struct kept *kept, store_octet *store, void *driver);
 

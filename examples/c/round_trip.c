@@ -1,4 +1,5 @@
 /* The ground secures a telecommand frame and the spacecraft checks it; a replay is refused; both restart and go on. */
+#include "xistalvo_command.h"
 #include "xistalvo_image.h"
 #include "xistalvo_stack.h"
 
@@ -65,6 +66,20 @@ static void check(struct end *space, const char *what, const uint8_t *frame, siz
     printf("; stores %u, data '%.*s'\n", XISTALVO_STORES(result), (int)XISTALVO_LENGTH(result), (const char *)data);
 }
 
+/* A management command, here one that changes nothing. Over a link, its octets are what a check released. */
+static void read_number(struct end *space)
+{
+    uint8_t command[XISTALVO_SPI_ALONE_LENGTH], reply[XISTALVO_LARGEST_REPLY];
+    size_t length = xistalvo_make_spi_alone(XISTALVO_TAG_READ_NUMBER, SPI, command, sizeof command);
+    uint64_t result = xistalvo_command(space->image, IMAGE_LENGTH, space->numbers, XISTALVO_NUMBERS, command, length, reply, sizeof reply);
+    say("read number", result);
+    printf("; reply");
+    for (size_t i = 0; i < XISTALVO_LENGTH(result); i++) {
+        printf(" %02X", reply[i]);
+    }
+    putchar('\n');
+}
+
 int main(void)
 {
     static struct end ground = {"load on the ground", {0}, {0}};
@@ -86,6 +101,7 @@ int main(void)
 
     load(&space); /* the spacecraft restarts too, and still knows the frame */
     check(&space, "the same frame again", frame, length);
+    read_number(&space);
 
     xistalvo_clear_stack(); /* the calls have left key octets there */
     return 0;

@@ -53,5 +53,8 @@ def main():
     load(space, "load on the spacecraft")  # the spacecraft restarts too, and still knows the frame
     check(space, "the same frame again", frame)
 
+    result = space.command(xistalvo.READ_NUMBER, SPI.to_bytes(2, "big"))  # over a link, it is what a check released
+    print(f"read number: {result}; reply {result.octets.hex(' ').upper()}")
+
 
 main()

@@ -19,7 +19,16 @@ ANSWERS = {
     10: "numbers used up",
     11: "secured frame would be too long",
     12: "check field differs",
+    13: "no such command, or of another length",
+    14: "no association has the SPI",
+    15: "state does not allow the command",
+    16: "value not allowed",
 }
+
+# Management commands by their tags: tag, length of the value in 2 octets, value.
+START, STOP, REKEY, EXPIRE, SET_NUMBER, SET_WINDOW = 0x1B, 0x1E, 0x16, 0x19, 0x1A, 0x15
+STATUS, READ_NUMBER, PING = 0x1F, 0x10, 0x31
+LARGEST_REPLY = 17
 
 
 class Result:
@@ -47,7 +56,9 @@ class Module:
         self._secure.argtypes = [buffer, size, numbers, size, kind, check_field, spi, buffer, size, buffer, size]
         self._check = library.xistalvo_check
         self._check.argtypes = [buffer, size, numbers, size, kind, check_field, buffer, size, buffer, size]
-        for function in (self._load, self._secure, self._check):
+        self._command = library.xistalvo_command
+        self._command.argtypes = [buffer, size, numbers, size, buffer, size, buffer, size]
+        for function in (self._load, self._secure, self._check, self._command):
             function.restype = ctypes.c_uint64
 
 
@@ -77,4 +88,11 @@ class End:
         packed = self.module._check(
             self.image, len(self.image), self.numbers, NUMBERS, kind, check_field, lent, len(frame), output, LARGEST_FRAME
         )
+        return Result(packed, output)
+
+    def command(self, tag, value=b""):
+        """Carries out a management command; the reply, if it has one, is in the result's octets."""
+        octets = bytes([tag]) + len(value).to_bytes(2, "big") + value
+        lent, output = (ctypes.c_uint8 * len(octets))(*octets), (ctypes.c_uint8 * LARGEST_REPLY)()
+        packed = self.module._command(self.image, len(self.image), self.numbers, NUMBERS, lent, len(octets), output, LARGEST_REPLY)
         return Result(packed, output)

@@ -86,7 +86,7 @@ size_t protect_frame(const struct association *association, const struct header 
 /* ---- what both directions ask first ---- */
 
 /* 'for some entry, last/64 rounded down is not its mark'. Numbers that are not 32 agree with no image. */
-static bool numbers_agree(const struct call *call, const struct table *table)
+bool numbers_agree(const struct call *call, const struct table *table)
 {
     if (call->numbers_length != NUMBER_COUNT) {
         return false;
@@ -141,7 +141,7 @@ struct store store_of_raise(size_t count, size_t entry, uint32_t mark)
 }
 
 /* 'the mark is raised one at a time from its old value to n/64 rounded down, one octet stored per raise'; 'Then last becomes n' */
-static void take_number(struct effect *effect, const struct table *table, size_t entry, uint32_t number)
+void take_number(struct effect *effect, const struct table *table, size_t entry, uint32_t number)
 {
     for (uint32_t mark = table->entries[entry].mark; mark < number / 64; mark++) {
         effect->stores[effect->store_count++] = store_of_raise(table->count, entry, mark);
@@ -180,7 +180,7 @@ uint32_t reading_raise(uint8_t *image, size_t length, unsigned entry, uint32_t n
 /* ---- load: 1 ---- */
 
 /* 'A refusal reports length 0 and 0 stores, leaves image, output and numbers alone' */
-static void nothing_happens(struct effect *effect)
+void nothing_happens(struct effect *effect)
 {
     effect->answer = 0;
     effect->length = 0;

@@ -1,4 +1,4 @@
-/* Document 01, 'The image'; document 02, request 1, for kind 4, and request 2, for version 2. */
+/* Document 01, 'The image'; document 02, request 1, for kind 4, request 2, for version 2, and request 5, for windows. */
 #include "reading.h"
 
 #include <string.h>
@@ -79,7 +79,7 @@ static void read_body(struct cursor *cursor, unsigned version, struct associatio
 }
 
 /* The column 'allowed'; 'For kind 4 the image allows spacecraft up to 255, channel up to 63, MAP 0'; of a set, 'zero breaks
- * the image rule'. Two equal keys of service 2 break no
+ * the image rule'; 'the image rule then allows any window in a body not operational'. Two equal keys of service 2 break no
  * rule: the key office's word is no rule of the image. */
 static bool body_obeys(const struct association *body)
 {
@@ -90,7 +90,7 @@ static bool body_obeys(const struct association *body)
         && is_within(body->spacecraft, 0, body->kind == 4 ? 255 : 1023)
         && (body->has_set ? is_within(body->channel, 1, 255) : is_within(body->channel, 0, body->kind == 3 ? 7 : 63))
         && is_within(body->map, 0, body->kind == 2 ? 63 : 0)
-        && is_within(body->window, 1, 1024)
+        && (body->state != 2 || is_within(body->window, 1, 1024))
         && (body->kind != 1 || body->mask[MASK_LENGTH - 1] == 0)
         && body->mark < (1u << 26);
 }

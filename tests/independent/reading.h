@@ -116,7 +116,7 @@ struct call {
     unsigned kind;
     bool has_field;
     unsigned spi; /* securing only */
-    const uint8_t *frame;
+    const uint8_t *frame; /* or, of a command, its octets */
     size_t frame_length;
     size_t output_length;
 };
@@ -130,7 +130,7 @@ struct effect {
     struct store stores[MOST_STORES];
     bool gives_numbers;             /* a load: all 32 numbers */
     uint32_t numbers[NUMBER_COUNT];
-    bool sets_number;               /* sending and checking: the number of one entry */
+    bool sets_number;               /* sending, checking and set number: the number of one entry */
     size_t entry;
     uint32_t number;
 };
@@ -138,6 +138,15 @@ struct effect {
 void reading_load(const struct call *call, struct effect *effect);
 void reading_secure(const struct call *call, struct effect *effect);
 void reading_check(const struct call *call, struct effect *effect);
+void reading_command(const struct call *call, struct effect *effect);
+
+/* What calls have in common: the test of 2, an effect without effect, and the stores and the number of a call that takes one. */
+bool numbers_agree(const struct call *call, const struct table *table);
+void nothing_happens(struct effect *effect);
+void take_number(struct effect *effect, const struct table *table, size_t entry, uint32_t number);
+
+/* Document 02, request 5: a channel of an association as a command names it, in 32 bits. */
+uint32_t name_of_channel(const struct association *association, unsigned channel);
 
 /* Carries out the first j stores of an effect; j above their number makes them all. */
 void carry_out_stores(const struct effect *effect, size_t j, uint8_t *image);

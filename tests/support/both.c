@@ -19,7 +19,7 @@ static struct {
     const struct input *input; /* the call under way, if any */
 } place;
 
-static const char *const call_names[] = {"load", "secure", "check"};
+static const char *const call_names[] = {"load", "secure", "check", "command"};
 
 /* ---- what is printed when something differs ---- */
 
@@ -42,7 +42,7 @@ static void print_input(const struct input *input)
         fprintf(stderr, " %" PRIu32, input->numbers[i]);
     }
     fputc('\n', stderr);
-    print_octets("frame", input->frame, input->frame_length);
+    print_octets(input->which == CALL_COMMAND ? "command" : "frame", input->frame, input->frame_length);
 }
 
 void both_fail(const char *sentence)
@@ -124,6 +124,9 @@ static uint64_t call_module(const struct input *input)
                                                                            input->numbers_length, input->kind, input->check_field, input->spi,
                                                                            frame_area.range, input->frame_length, output_area.range,
                                                                            input->output_length);
+    case CALL_COMMAND:
+        return xistalvo_command(image_area.range, input->image_length, numbers, input->numbers_length, frame_area.range,
+                                input->frame_length, output_area.range, input->output_length);
     default:
         return (is_on_ground() ? xistalvo_ground_check : xistalvo_check)(image_area.range, input->image_length, numbers,
                                                                          input->numbers_length, input->kind, input->check_field,
@@ -153,6 +156,9 @@ static void read_document(const struct input *input, struct effect *effect)
         break;
     case CALL_SECURE:
         reading_secure(&call, effect);
+        break;
+    case CALL_COMMAND:
+        reading_command(&call, effect);
         break;
     default:
         reading_check(&call, effect);
@@ -207,7 +213,7 @@ static void compare_ranges(const struct input *after, const struct input *expect
         both_fail("the output afterwards is not what it should be");
     }
     if (memcmp(after->frame, expected->frame, after->frame_length) != 0) {
-        both_fail("the frame was changed");
+        both_fail("the frame, or the command, was changed");
     }
 }
 

@@ -1,4 +1,4 @@
-/* The module through its C interface, and the independent reading of document 01, on the same input. */
+/* The module through its C interface, and the independent reading of the papers, on the same input. */
 #ifndef BOTH_H
 #define BOTH_H
 
@@ -7,7 +7,7 @@
 
 enum { IMAGE_ROOM = 2048, NUMBER_ROOM = 48, FRAME_ROOM = 4096 };
 
-enum which_call { CALL_LOAD, CALL_SECURE, CALL_CHECK };
+enum which_call { CALL_LOAD, CALL_SECURE, CALL_CHECK, CALL_COMMAND };
 
 /* All that a call is lent, and, after it, what the module left there. */
 struct input {
@@ -19,7 +19,7 @@ struct input {
     uint8_t kind;
     uint8_t check_field; /* 0 says that there is none, any other number that there is one */
     uint16_t spi;
-    uint8_t frame[FRAME_ROOM];
+    uint8_t frame[FRAME_ROOM]; /* or the command */
     size_t frame_length;
     uint8_t output[FRAME_ROOM];
     size_t output_length;

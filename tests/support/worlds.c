@@ -43,17 +43,25 @@ static void any_key_and_mask(struct random *random, struct association *associat
     }
 }
 
+/* A window that the state allows: outside 1 to 1,024 only where the association is not operational. */
+void any_window(struct random *random, struct association *association)
+{
+    association->window = random_percent(random, 70) ? RANDOM_OF(random, 1, 2, 63, 64, 65, 100, 1023, 1024, 1024)
+                                                     : random_between(random, 1, 1024);
+    if (association->state != 2 && random_percent(random, 50)) {
+        association->window = random_percent(random, 80) ? RANDOM_OF(random, 0, 1025, 65535) : random_below(random, 65536);
+    }
+}
+
 /* What one end alone decides. */
 static void any_own_fields(struct random *random, struct association *association)
 {
     association->state = random_percent(random, 90) ? 2 : random_below(random, 2);
-    association->window = random_percent(random, 70) ? RANDOM_OF(random, 1, 2, 63, 64, 65, 100, 1023, 1024, 1024)
-                                                     : random_between(random, 1, 1024);
+    any_window(random, association);
     association->mark = any_mark(random);
 }
 
-/* A channel that an association serves. */
-static unsigned any_channel(struct random *random, const struct association *association)
+unsigned any_channel(struct random *random, const struct association *association)
 {
     unsigned channel = association->has_set ? random_below(random, 8) : association->channel;
     while (!serves_channel(association, channel)) {

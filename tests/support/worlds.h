@@ -28,6 +28,12 @@ void set_table(struct end *end, const struct table *table);
 /* Sets one entry's number, and its mark to agree. */
 void set_number(struct end *end, size_t entry, uint32_t number);
 
+/* A window that the association's state allows, at limits more often than not. */
+void any_window(struct random *random, struct association *association);
+
+/* A channel that an association serves. */
+unsigned any_channel(struct random *random, const struct association *association);
+
 /* Makes every association but one anew, with the same SPIs and with numbers that agree. The image breaks no rule, before and after. */
 void change_others(struct random *random, struct input *input, size_t kept);
 

@@ -1,20 +1,16 @@
--- Document 01, 'What comes back', answer 4, and document 02, request 2: what a frame and its SPI ask of an entry, and the search, which
--- ends at the first entry that matches.
+-- Document 01, 'What comes back', answer 4, and document 02, requests 2 and 5: what a frame and its SPI ask of an entry, and the search,
+-- which ends at the first entry that matches.
 -- Assumes nothing.
 use Prim.Native.Nat.{ℕ, zero, suc, _+_, _/_, _%_, _^_}
 use mathlib.Core.Bool.{Bool, cond, not, _&&_, _||_}
 use mathlib.Core.List.{List}
 use lib.Dec.{eqb, ltb}
 use Rattle.kinds.specs.Kinds.{hasMap, kindOf}
-use Rattle.bodies.specs.Body.{kindIn, directionOf, stateOf, spacecraftOf, channelOf, holdsSet, mapOf}
+use Rattle.bodies.specs.Body.{kindIn, directionOf, stateOf, spacecraftOf, channelOf, holdsSet, mapOf, operational}
 use Rattle.image.specs.Image.{versionOf, countOf, spiOf, bodyOf}
 use Rattle.association.specs.declared.search.Found.{Found}
 use Rattle.association.specs.declared.search.Found.the-variants as found
 use Rattle.association.specs.declared.search.Wanted.{Wanted}
-
--- the state in which an association serves
-abbrev pub operational : ℕ
-operational = 2
 
 -- whether a channel is in a set of eight bits, the lowest for channel 0
 abbrev pub inSet : ℕ → ℕ → Bool
@@ -48,3 +44,7 @@ firstFrom i (suc n) test = cond (test i) (found.At i) (firstFrom (i + 1) n test)
 
 unfoldable pub entryFor : List ℕ → Wanted → Found
 entryFor image w = firstFrom 0 (countOf image) (matches image w)
+
+-- the entry with an SPI, whatever its direction, kind and state
+unfoldable pub withSpi : List ℕ → ℕ → Found
+withSpi image spi = firstFrom 0 (countOf image) (λ i. eqb (spiOf image i) spi)

@@ -18,5 +18,7 @@ pub use numbers::test_standing;
 pub use search::Found;
 pub use search::Wanted;
 pub use search::find;
+pub use search::find_spi;
+pub use search::serves_channel;
 pub use stores::plan_for;
 pub use stores::raise;

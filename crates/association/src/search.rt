@@ -1,4 +1,6 @@
-// Document 01, 'What comes back', answer 4, and document 02, request 2: the search of the contents for the entry that serves a frame.
+// Document 01, 'What comes back', answer 4, and document 02, requests 2 and 5: the search of the contents for the entry that serves a frame,
+// and for the one that a command names.
+use bodies::OPERATIONAL;
 use bodies::channel_of;
 use bodies::direction_of;
 use bodies::holds_set;
@@ -15,7 +17,7 @@ use kinds::kind_of;
 ghost use mathlib.Core.Path.{_≡_};
 ghost use Rattle.kinds.specs.Kinds.{hasMap, kindOf};
 ghost use Rattle.bodies.specs.Body.{bodyIn};
-ghost use Rattle.association.specs.Search.{inSet, servesChannel, servesMap, bodyServes, matches, entryFor};
+ghost use Rattle.association.specs.Search.{inSet, servesChannel, servesMap, bodyServes, matches, entryFor, withSpi};
 
 // The index of an entry, or none.
 pub enum Found {
@@ -43,7 +45,7 @@ fn in_set(set: u8, channel: u8) -> bool
     (set >> channel) % 2 == 1
 }
 
-fn serves_channel(image: &[u8], version: u8, at: u16, channel: u8) -> bool
+pub fn serves_channel(image: &[u8], version: u8, at: u16, channel: u8) -> bool
     ensures { λ r. ⌜ r ≡ servesChannel version (bodyIn (now (image .entry)) version at) channel ⌝ }
 {
     let held = channel_of(image, version, at);
@@ -73,7 +75,7 @@ fn serves_map(image: &[u8], version: u8, at: u16, map: u8) -> bool
 fn body_serves(image: &[u8], version: u8, at: u16, wanted: Wanted) -> bool
     ensures { λ r. ⌜ r ≡ bodyServes version (bodyIn (now (image .entry)) version at) wanted ⌝ }
 {
-    (state_of(image, version, at) == 2)
+    (state_of(image, version, at) == OPERATIONAL)
         & (direction_of(image, version, at) == wanted.direction)
         & (kind_in(image, version, at) == wanted.kind)
         & (spacecraft_of(image, version, at) == wanted.spacecraft)
@@ -86,6 +88,23 @@ fn entry_matches(image: &[u8], wanted: Wanted, index: u8) -> bool
 {
     (spi_of(image, index) == wanted.spi)
         & body_serves(image, version_of(image), body_at(image, index), wanted)
+}
+
+// The entry with an SPI, whatever its direction, kind and state.
+pub fn find_spi(image: &[u8], spi: u16) -> Found
+    ensures { λ r. ⌜ r ≡ withSpi (now (image .entry)) spi ⌝ }
+{
+    let count = count_of(image);
+    let mut i: u8 = 0;
+    loop {
+        if count <= i {
+            break Found::Nothing;
+        }
+        if spi_of(image, i) == spi {
+            break Found::At(i);
+        }
+        i += 1;
+    }
 }
 
 // The search of the contents. It ends at the first entry that matches.

@@ -6,7 +6,7 @@ use mathlib.Core.Bool.{Bool, true, false, _&&_, _||_}
 use mathlib.Core.List.{List}
 use Prim.Native.Nat.{ℕ, zero, suc, _^_, _≤_, _<_}
 use native.Mathlib.Omega.{arith}
-use borrow.Author.Tests.{eqb-true, leb-true, ltb-true, ne-eqb}
+use borrow.Author.Tests.{eqb-true, leb-true, ltb-true, eq-eqb, ne-eqb}
 use lib.Dec.{eqb, leb}
 use lib.ListN.{length, List·getD-eq-default}
 use Rattle.octets.specs.Lists.{octet}
@@ -17,7 +17,7 @@ use Rattle.kinds.specs.declared.kinds.Kind as code
 use Rattle.kinds.specs.declared.kinds.Named.{Named}
 use Rattle.kinds.specs.declared.kinds.Named.the-variants as naming
 use Rattle.bodies.specs.Body.{serviceOf, kindIn, directionOf, stateOf, spacecraftOf, channelOf, holdsSet, mapOf, windowOf, maskOf, markOf}
-use Rattle.bodies.specs.Body.{channelOk, kindOk, bodyOk}
+use Rattle.bodies.specs.Body.{operational, mostWindow, channelOk, kindOk, windowOk, bodyOk}
 use Rattle.bodies.specs.Layout.{maskPlace, maskLength}
 
 -- a mask has six octets
@@ -38,14 +38,17 @@ pub record KindKept (version : ℕ) (body : List ℕ) : Type 0 where
 pub record ValidBody (version : ℕ) (body : List ℕ) : Type 0 where
   pub service : (1 ≤ serviceOf body) × (serviceOf body ≤ 2)
   pub direction : (1 ≤ directionOf body) × (directionOf body ≤ 2)
-  pub state : stateOf body ≤ 2
+  pub state : stateOf body ≤ operational
   pub kind : KindKept version body
-  pub window : (1 ≤ windowOf body) × (windowOf body ≤ 1024)
+  pub window : stateOf body ≡ operational → (1 ≤ windowOf body) × (windowOf body ≤ mostWindow)
   pub mark : markOf version body < 2 ^ 26
 
 pub between : (low x high : ℕ) → (leb low x && leb x high) ≡ true → (low ≤ x) × (x ≤ high)
 between low x high e =
     (leb-true low x (and-left (leb low x) (leb x high) e), leb-true x high (and-right (leb low x) (leb x high) e))
+
+serving-window : (body : List ℕ) → windowOk body ≡ true → stateOf body ≡ operational → (1 ≤ windowOf body) × (windowOf body ≤ mostWindow)
+serving-window body e serves = between 1 (windowOf body) mostWindow (rw (eq-eqb (stateOf body) operational serves) at e)
 
 named-range : (n : ℕ) (k : code.Kind) → named n ≡ naming.Kind k → (1 ≤ n) × (n ≤ 4)
 unfolding named
@@ -88,8 +91,8 @@ valid-body version body e =
     record {
       service = between 1 (serviceOf body) 2 (search (and-left, and-right));
       direction = between 1 (directionOf body) 2 (search (and-left, and-right));
-      state = leb-true (stateOf body) 2 (search (and-left, and-right));
+      state = leb-true (stateOf body) operational (search (and-left, and-right));
       kind = kind-kept version body (named (kindIn body)) refl (search (and-left, and-right));
-      window = between 1 (windowOf body) 1024 (search (and-left, and-right));
+      window = serving-window body (search (and-left, and-right));
       mark = ltb-true (markOf version body) (2 ^ 26) (search (and-left, and-right));
     }

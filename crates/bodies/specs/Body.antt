@@ -1,8 +1,8 @@
--- Document 01, 'The image', and document 02, request 2: the body of an entry, what its octets hold and what is allowed there. Octets are
--- counted from the body's first. A field whose place, size or rule depends on the image's version is given it.
+-- Document 01, 'The image', and document 02, requests 2 and 5: the body of an entry, what its octets hold and what is allowed there. Octets
+-- are counted from the body's first. A field whose place, size or rule depends on the image's version is given it.
 -- Assumes nothing.
 use Prim.Native.Nat.{ℕ, _^_}
-use mathlib.Core.Bool.{Bool, false, cond, _&&_, _||_}
+use mathlib.Core.Bool.{Bool, false, cond, not, _&&_, _||_}
 use mathlib.Core.List.{List}
 use lib.Dec.{eqb, leb, ltb}
 use Rattle.octets.specs.Lists.{octet, part}
@@ -67,8 +67,19 @@ serviceOk body = leb 1 (serviceOf body) && leb (serviceOf body) 2
 abbrev pub directionOk : List ℕ → Bool
 directionOk body = leb 1 (directionOf body) && leb (directionOf body) 2
 
+-- the states, in their order
+abbrev pub unkeyed : ℕ
+unkeyed = 0
+
+abbrev pub keyed : ℕ
+keyed = 1
+
+-- the one in which an association serves
+abbrev pub operational : ℕ
+operational = 2
+
 abbrev pub stateOk : List ℕ → Bool
-stateOk body = leb (stateOf body) 2
+stateOk body = leb (stateOf body) operational
 
 -- a set of virtual channels is not empty; one channel is, for a kind of frame, at most what it allows
 abbrev pub channelOk : ℕ → Kind → List ℕ → Bool
@@ -87,8 +98,17 @@ kindOk version (naming.Kind k) body =
     && maskOk (kindIs k) body
 kindOk version naming.Nothing body = false
 
+-- a window with which an association may serve
+abbrev pub mostWindow : ℕ
+mostWindow = 1024
+
+abbrev pub windowFits : ℕ → Bool
+windowFits window = leb 1 window && leb window mostWindow
+
+-- Request 5: of a body that is operational. In another the window may be any, since a command that changes it stores its two octets one
+-- after the other, and a cut between them leaves one new and one old
 abbrev pub windowOk : List ℕ → Bool
-windowOk body = leb 1 (windowOf body) && leb (windowOf body) 1024
+windowOk body = not (eqb (stateOf body) operational) || windowFits (windowOf body)
 
 abbrev pub markOk : ℕ → List ℕ → Bool
 markOk version body = ltb (markOf version body) (2 ^ 26)

@@ -1,4 +1,4 @@
-// Document 01, 'The image', and document 02, request 2: the body of an entry, what its octets hold and what is allowed there.
+// Document 01, 'The image', and document 02, requests 2 and 5: the body of an entry, what its octets hold and what is allowed there.
 use crate::layout::CHANNEL;
 use crate::layout::DIRECTION;
 use crate::layout::KIND;
@@ -23,8 +23,15 @@ ghost use Rattle.octets.specs.Lists.{octet};
 ghost use Rattle.octets.specs.Numbers.{numberAt};
 ghost use Rattle.kinds.specs.Kinds.{kindIs, named};
 ghost use Rattle.bodies.specs.Body.{bodyIn, serviceOf, kindIn, directionOf, stateOf, spacecraftOf, channelOf, holdsSet, mapOf, windowOf, maskOf, codeOf};
-ghost use Rattle.bodies.specs.Body.{serviceOk, directionOk, stateOk, channelOk, maskOk, kindOk, windowOk, markOk, bodyOk};
+ghost use Rattle.bodies.specs.Body.{serviceOk, directionOk, stateOk, channelOk, maskOk, kindOk, windowFits, windowOk, markOk, bodyOk};
 ghost use Rattle.bodies.specs.Layout.{fieldsEnd};
+
+// The states, in their order; an association serves in the last.
+pub const UNKEYED: u8 = 0;
+
+pub const KEYED: u8 = 1;
+
+pub const OPERATIONAL: u8 = 2;
 
 // What it holds. Of the fields that every version has: octet k, and the number of two octets from there on.
 fn body_octet(image: &[u8], version: u8, at: u16, k: usize) -> u8
@@ -130,7 +137,7 @@ fn direction_ok(image: &[u8], version: u8, at: u16) -> bool
 fn state_ok(image: &[u8], version: u8, at: u16) -> bool
     ensures { λ r. ⌜ r ≡ stateOk (bodyIn (now (image .entry)) version at) ⌝ }
 {
-    state_of(image, version, at) <= 2
+    state_of(image, version, at) <= OPERATIONAL
 }
 
 // A set is not empty; one channel is at most what the kind allows.
@@ -174,11 +181,18 @@ fn kind_ok(image: &[u8], version: u8, at: u16) -> bool
     }
 }
 
+// A window with which an association may serve.
+pub fn window_fits(window: u16) -> bool
+    ensures { λ r. ⌜ r ≡ windowFits window ⌝ }
+{
+    (1 <= window) & (window <= 1024)
+}
+
+// Request 5: it is asked of a body that is operational alone.
 fn window_ok(image: &[u8], version: u8, at: u16) -> bool
     ensures { λ r. ⌜ r ≡ windowOk (bodyIn (now (image .entry)) version at) ⌝ }
 {
-    let window = window_of(image, version, at);
-    (1 <= window) & (window <= 1024)
+    !(state_of(image, version, at) == OPERATIONAL) | window_fits(window_of(image, version, at))
 }
 
 // A mark is below 2^26 if and only if its code is, so the code is tested and no mark made.

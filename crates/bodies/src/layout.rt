@@ -9,7 +9,7 @@ pub(crate) const KIND: usize = 1;
 
 pub(crate) const DIRECTION: usize = 2;
 
-pub(crate) const STATE: usize = 3;
+pub const STATE: usize = 3;
 
 pub(crate) const SPACECRAFT: usize = 4;
 
@@ -17,7 +17,7 @@ pub(crate) const CHANNEL: usize = 6;
 
 pub(crate) const MAP: usize = 7;
 
-pub(crate) const WINDOW: usize = 8;
+pub const WINDOW: usize = 8;
 
 pub(crate) const MASK: usize = 10;
 

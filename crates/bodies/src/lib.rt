@@ -3,6 +3,9 @@
 mod body;
 mod layout;
 
+pub use body::KEYED;
+pub use body::OPERATIONAL;
+pub use body::UNKEYED;
 pub use body::body_ok;
 pub use body::channel_of;
 pub use body::code_of;
@@ -14,7 +17,10 @@ pub use body::mask_of;
 pub use body::service_of;
 pub use body::spacecraft_of;
 pub use body::state_of;
+pub use body::window_fits;
 pub use body::window_of;
 pub use layout::Layout;
+pub use layout::STATE;
+pub use layout::WINDOW;
 pub use layout::layout_of;
 pub use layout::version_ok;

@@ -1,4 +1,5 @@
--- Document 01, 'What comes back': the answers and their numbers, and the first of several refusals that applies.
+-- Document 01, 'What comes back', and document 02, requests 4 and 5: the answers and their numbers, and the first of several refusals that
+-- applies.
 -- Assumes nothing.
 use Prim.Native.Nat.{ℕ}
 use mathlib.Core.Bool.{Bool, cond}
@@ -33,6 +34,10 @@ reported answer.OutsideWindow = refusal 8
 reported answer.NumbersSpent = refusal 10
 reported answer.TooLong = refusal 11
 reported answer.WrongCheckField = refusal 12
+reported answer.BadCommand = refusal 13
+reported answer.UnknownSpi = refusal 14
+reported answer.WrongState = refusal 15
+reported answer.BadValue = refusal 16
 
 -- ---- the first that applies is given and no other; where none applies, the answer is 0
 

@@ -1,5 +1,5 @@
-// Document 01, 'What comes back', and document 02, request 4: one variant for each number of the papers. Done reports the length of the result
-// and the count of stores.
+// Document 01, 'What comes back', and document 02, requests 4 and 5: one variant for each number of the papers. Done reports the length of
+// the result and the count of stores.
 pub enum Answer {
     Done(usize, u32),
     BadImage,
@@ -13,4 +13,8 @@ pub enum Answer {
     NumbersSpent,
     TooLong,
     WrongCheckField,
+    BadCommand,
+    UnknownSpi,
+    WrongState,
+    BadValue,
 }

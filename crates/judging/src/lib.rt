@@ -16,3 +16,4 @@ pub use receiving::judge_receiving;
 pub use sending::judge_sending;
 pub use verdict::Grant;
 pub use verdict::Verdict;
+pub use window::accepts;

@@ -5,7 +5,7 @@ ghost use Prim.Native.Nat.{_+_, _*_};
 ghost use Rattle.association.specs.Numbers.{accepts};
 
 // The window's test, over whole numbers: nothing is subtracted, and nothing wraps.
-pub(crate) fn accepts(last: u32, window: u16, n: Sequence) -> bool
+pub fn accepts(last: u32, window: u16, n: Sequence) -> bool
     ensures { λ r. ⌜ r ≡ accepts last window (n .above * 4294967296 + n .number) ⌝ }
 {
     let number = n.number;

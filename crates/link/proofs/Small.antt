@@ -16,11 +16,13 @@ use Rattle.kinds.specs.declared.kinds.Named.{Named}
 use Rattle.kinds.specs.declared.kinds.Named.the-variants as answer
 use Rattle.frame.proofs.Room.{obeyed}
 use Rattle.kinds.proofs.Sizes.{largest-most}
-use Rattle.image.specs.Image.{countOf, validImage}
+use Rattle.octets.proofs.Alls.{and-left, and-right}
+use Rattle.bodies.specs.Body.{stateOf, operational, mostWindow}
+use Rattle.image.specs.Image.{countOf, bodyOf, validImage}
 use Rattle.image.proofs.ValidImages.{valid}
 use Rattle.association.specs.Association.{Association, associationOf, held, heldIn, isNone, theOne, matching, indexOf}
 use Rattle.association.specs.Numbers.{numberOf, agrees}
-use Rattle.association.specs.Search.{entryFor}
+use Rattle.association.specs.Search.{bodyServes, matches, entryFor}
 use Rattle.association.specs.Stores.{storesFor}
 use Rattle.association.specs.declared.held.Held.{Held}
 use Rattle.association.specs.declared.search.Wanted.{Wanted}
@@ -58,10 +60,13 @@ small-left q image last output s = by-answer (eqb (q .answer) 0) refl
 
 -- ---- few stores
 
-pub window-small : (image last : List ℕ) (e : ℕ) → validImage image ≡ true → e < countOf image
-    → heldIn (associationOf image last e) .window ≤ 1024
-unfolding associationOf held
-window-small image last e passed below = valid image passed .entry e below .body .window .1
+-- an association that serves is operational, so its window is one that fits
+pub window-small : (image last : List ℕ) (w : Wanted) (e : ℕ) → validImage image ≡ true → e < countOf image → matches image w e ≡ true
+    → heldIn (associationOf image last e) .window ≤ mostWindow
+unfolding associationOf held matches bodyServes
+window-small image last w e passed below serves =
+    let state : stateOf (bodyOf image e) ≡ operational = eqb-true (stateOf (bodyOf image e)) operational (search (and-left, and-right)) in
+    valid image passed .entry e below .body .window state .1
 
 module _ (image last : List ℕ) (w : Wanted) (passed : validImage image ≡ true) (agree : agrees image last ≡ true)
     (some : isNone (matching image last w) ≡ false) where
@@ -79,13 +84,13 @@ module _ (image last : List ℕ) (w : Wanted) (passed : validImage image ≡ tru
       in
       omega (arith, counted image e n passed (f .below), agreed image last agree e (f .below))
 
-  window-found : heldIn a .window ≤ 1024
+  window-found : heldIn a .window ≤ mostWindow
   window-found =
       let f = finds image last w some in
       let same : heldIn a .window ≡ heldIn (associationOf image last e) .window =
       ap (λ (x : Association). heldIn x .window) (f .association)
       in
-      omega (arith, window-small image last e passed (f .below))
+      omega (arith, window-small image last w e passed (f .below) (f .passes))
 
 -- ---- a short result
 

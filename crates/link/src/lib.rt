@@ -11,7 +11,6 @@ use checking::check_under;
 use judging::Admission;
 use judging::admit_receiving;
 use judging::admit_sending;
-use outcome::refused;
 use securing::secure_under;
 ghost use mathlib.Core.List.{[]};
 ghost use mathlib.Core.Path.{_≡_};
@@ -20,6 +19,8 @@ ghost use Rattle.judging.specs.Said.{saying};
 ghost use Rattle.link.specs.Calls.{leaving, loaded, secured, checked};
 pub use judging::Answer;
 pub use outcome::Outcome;
+pub use outcome::carried_out;
+pub use outcome::refused;
 
 // A load accepts an image and gives the numbers that its marks stand for. It stores nothing.
 pub fn load(image: &[u8], numbers: Numbers) -> Outcome

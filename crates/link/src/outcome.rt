@@ -13,14 +13,14 @@ pub struct Outcome {
 }
 
 // A refusal returns the numbers as they were handed in.
-pub(crate) fn refused(answer: Answer, numbers: Numbers) -> Outcome
+pub fn refused(answer: Answer, numbers: Numbers) -> Outcome
     ensures { λ r. ⌜ r ≡ outcome answer numbers ⌝ }
 {
     Outcome { answer, numbers }
 }
 
 // What is returned once the stores are made and the output is written.
-pub(crate) fn carried_out(grant: Grant, made: u32, numbers: Numbers) -> Outcome
+pub fn carried_out(grant: Grant, made: u32, numbers: Numbers) -> Outcome
     ensures { λ r. ⌜ (reported (r .answer) ≡ granted (grant .size) made) × (r .numbers .last ≡ set (numbers .last) (grant .entry) (grant .number)) ⌝ }
 {
     Outcome {

@@ -2,16 +2,21 @@
 -- and length can be taken out of the number again.
 -- Assumes nothing.
 use Prim.Native.Nat.{ℕ}
-use mathlib.Core.Bool.{cond}
+use mathlib.Core.Path.{_≡_, refl}
+use mathlib.Core.Bool.{Bool, true, false, cond}
 use mathlib.Core.List.{List, []}
 use native.Mathlib.Omega.{arith}
+use borrow.Author.Tests.{eqb-true}
 use lib.Dec.{eqb}
 use lib.ListN.{length}
+use Rattle.octets.specs.Lists.{Octets}
 use Rattle.image.specs.Image.{validImage}
-use Rattle.link.specs.Calls.{Left, loaded, secured, checked}
+use Rattle.link.specs.Calls.{Left, refused, loaded, secured, checked}
 use Rattle.judging.specs.Said.{Said}
 use Rattle.link.proofs.Small.{Small, small-refused, small-either, loaded-small, secured-small, checked-small}
-use Rattle.link_c.specs.Interface.{counted, loadCall, secureCall, checkCall, Unpacked}
+use Rattle.commands.specs.Commanding.{commanded}
+use Rattle.commands.proofs.Small.{commanded-small}
+use Rattle.link_c.specs.Interface.{counted, loadCall, secureCall, checkCall, commandCall, Unpacked}
 
 unpacked : (x : Left) → Small x → Unpacked x
 unpacked x s = record { answer = omega arith; stores = omega (arith, s .few); length = omega (arith, s .short) }
@@ -35,3 +40,16 @@ pub check-unpacked : (image numbers : List ℕ) (said : Said) (frame output : Li
 unfolding checkCall
 check-unpacked image numbers said frame output =
     unpacked-counted image numbers output (checked image numbers said frame output) (checked-small image numbers said frame output)
+
+-- of octets, as all that C lends are
+pub command-unpacked : (image numbers command output : List ℕ) → Octets image → Octets command
+    → Unpacked (commandCall image numbers command output)
+unfolding commandCall
+command-unpacked image numbers command output octets spoken = by-count (eqb (length numbers) 32) refl
+  where
+    by-count : (t : Bool) → eqb (length numbers) 32 ≡ t
+        → Unpacked (cond t (commanded image numbers command output) (refused (cond (validImage image) 2 1) image numbers output))
+    by-count true e =
+        unpacked (commanded image numbers command output)
+        (commanded-small image numbers command output octets spoken (eqb-true (length numbers) 32 e))
+    by-count false e = unpacked _ (small-refused (cond (validImage image) 2 1) image numbers output)

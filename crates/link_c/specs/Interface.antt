@@ -1,14 +1,15 @@
 -- The module as C calls it: the one number that a call returns, and what it leaves of the image, the numbers and the output that it was lent.
--- Each call is the one of link's specs/Calls on the lent numbers, if they are 32.
+-- Each call is the one of link's specs/Calls, or of commands' specs/Commanding, on the lent numbers, if they are 32.
 -- Assumes nothing.
 use Prim.Native.Nat.{ℕ, _+_, _*_, _/_, _%_, _^_}
 use mathlib.Core.Path.{_≡_}
 use mathlib.Core.Bool.{not, cond}
 use mathlib.Core.List.{List, []}
 use lib.Dec.{eqb}
-use lib.ListN.{length}
+use lib.ListN.{length, take}
 use Rattle.image.specs.Image.{validImage}
-use Rattle.link.specs.Calls.{Left, refused, loaded, secured, checked}
+use Rattle.link.specs.Calls.{Left, refused, cut, loaded, secured, checked}
+use Rattle.commands.specs.Commanding.{madeBy, commandReply, commanded}
 use Rattle.judging.specs.Said.{Said, saying}
 
 -- ---- the returned number: bits 0 to 31 hold the length of the result, 32 to 39 the stores, 40 to 47 the answer's number
@@ -45,6 +46,15 @@ secureCall image numbers said spi frame output = counted image numbers output (s
 
 unfoldable pub checkCall : List ℕ → List ℕ → Said → List ℕ → List ℕ → Left
 checkCall image numbers said frame output = counted image numbers output (checked image numbers said frame output)
+
+unfoldable pub commandCall : List ℕ → List ℕ → List ℕ → List ℕ → Left
+commandCall image numbers command output = counted image numbers output (commanded image numbers command output)
+
+-- a command cut after j stores: the number of those that were made, and the image
+pub record CutShort (image numbers command : List ℕ) (room j : ℕ) (r : ℕ) (i : List ℕ) : Type 0 where
+  pub counted : length numbers ≡ 32
+      → (r ≡ length (take j (madeBy (commandReply image numbers command room)))) × (i ≡ cut (commandReply image numbers command room) image j)
+  pub miscounted : (length numbers ≡ 32 → ⊥) → (r ≡ 0) × (i ≡ image)
 
 -- ---- what the caller sees of a call: the number, and the lent lists as it returns
 

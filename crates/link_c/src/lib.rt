@@ -1,5 +1,6 @@
 // The link security module for C: include/xistalvo.h declares these functions. A slice passes as a pointer and a count of its elements. Each
-// function is the one of crate `link` (or the cut of crate `association`) over lists that the caller lends: nothing is kept between calls.
+// function is the one of crate `link` or `commands` (or the cut of crate `association`) over lists that the caller lends: nothing is kept between
+// calls.
 mod calls;
 mod lent;
 mod packing;
@@ -14,7 +15,7 @@ use word_tables::word_tables;
 ghost use mathlib.Core.List.{[]};
 ghost use mathlib.Core.Path.{_≡_};
 ghost use Rattle.association.specs.Stores.{storesMade, afterStores};
-ghost use Rattle.link_c.specs.Interface.{Returned, told, loadCall, secureCall, checkCall};
+ghost use Rattle.link_c.specs.Interface.{Returned, told, loadCall, secureCall, checkCall, commandCall, CutShort};
 
 // A restart.
 #[no_mangle]
@@ -93,6 +94,43 @@ pub extern "C" fn xistalvo_ground_check(
 {
     let tables = word_tables();
     check_lent(&tables, image, numbers, kind, field, frame, output)
+}
+
+// A management command, and its reply to the front of the output.
+#[no_mangle]
+pub extern "C" fn xistalvo_command(
+    image: &mut [u8],
+    numbers: &mut [u32],
+    command: &[u8],
+    output: &mut [u8],
+) -> u64
+    ensures { λ r. ⌜ Returned (commandCall (now (image .entry)) (now (numbers .entry)) (now (command .entry)) (now (output .entry))) r (now (image .exit)) (now (numbers .exit)) (now (output .exit)) ⌝ }
+{
+    if numbers.len() != 32 {
+        return refuse_count(image);
+    }
+    let outcome = commands::command(image, numbers_in(numbers), command, output);
+    let answer = outcome.answer;
+    hand_back(outcome.numbers, numbers);
+    pack(answer)
+}
+
+// The cut of a command: the first `stores` of its octet stores, where its reply has that much room; how many were made. Numbers that are not
+// 32 agree with no image, so nothing is stored.
+#[no_mangle]
+pub extern "C" fn xistalvo_command_cut(
+    image: &mut [u8],
+    numbers: &[u32],
+    command: &[u8],
+    room: usize,
+    stores: u32,
+) -> u32
+    ensures { λ r. ⌜ CutShort (now (image .entry)) (now (numbers .entry)) (now (command .entry)) room stores r (now (image .exit)) ⌝ }
+{
+    if numbers.len() != 32 {
+        return 0;
+    }
+    commands::command_cut(image, numbers_in(numbers), command, room, stores)
 }
 
 // The cut: the first `stores` of the octet stores that raise the mark of an entry to that of a number; how many were made.

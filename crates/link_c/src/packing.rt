@@ -28,5 +28,9 @@ pub(crate) fn pack(answer: Answer) -> u64
         Answer::NumbersSpent => word(10, 0, 0),
         Answer::TooLong => word(11, 0, 0),
         Answer::WrongCheckField => word(12, 0, 0),
+        Answer::BadCommand => word(13, 0, 0),
+        Answer::UnknownSpi => word(14, 0, 0),
+        Answer::WrongState => word(15, 0, 0),
+        Answer::BadValue => word(16, 0, 0),
     }
 }

@@ -19,6 +19,10 @@ fn number_of(answer: Answer) -> u64 {
         Answer::NumbersSpent => 10,
         Answer::TooLong => 11,
         Answer::WrongCheckField => 12,
+        Answer::BadCommand => 13,
+        Answer::UnknownSpi => 14,
+        Answer::WrongState => 15,
+        Answer::BadValue => 16,
     }
 }
 

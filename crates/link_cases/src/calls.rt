@@ -6,6 +6,7 @@ use crate::fields::octet;
 use crate::fields::two;
 use association::Numbers;
 use association::raise;
+use commands::command;
 use lines::field;
 use lines::print_number;
 use lines::read_octets;
@@ -30,7 +31,8 @@ pub(crate) fn run_raise(line: &[u8], image: &mut [u8], numbers: Numbers) -> Numb
     numbers
 }
 
-// `secure KIND FIELD SPI ROOM FRAME`, or `check KIND FIELD ROOM FRAME`, where the SPI stands in the frame. FIELD is 00 for no check field.
+// `secure KIND FIELD SPI ROOM FRAME`; `check KIND FIELD ROOM FRAME`, where the SPI stands in the frame; or `manage ROOM COMMAND`. FIELD is 00
+// for no check field.
 fn outcome(
     line: &[u8],
     image: &mut [u8],
@@ -38,6 +40,9 @@ fn outcome(
     frame: &[u8],
     output: &mut [u8],
 ) -> Outcome {
+    if octet_at(line, 0) == b'm' {
+        return command(image, numbers, frame, output);
+    }
     let kind = octet(line, 1);
     let field = octet(line, 2) != 0;
     if octet_at(line, 0) == b's' {
@@ -46,7 +51,7 @@ fn outcome(
     link::check(image, numbers, kind, field, frame, output)
 }
 
-// Such a line, by the numbers of its fields ROOM, which is the length of the output, at most 4096, and FRAME.
+// Such a line, by the numbers of its fields ROOM, which is the length of the output, at most 4096, and FRAME, or COMMAND.
 pub(crate) fn run_frame(
     line: &[u8],
     room: usize,

@@ -47,6 +47,7 @@ fn call(line: &[u8], image: &mut [u8], numbers: Numbers) -> Numbers {
         b'r' => run_raise(line, image, numbers),
         b's' => run_frame(line, 4, 5, image, numbers),
         b'c' => run_frame(line, 3, 4, image, numbers),
+        b'm' => run_frame(line, 1, 2, image, numbers),
         _ => numbers,
     }
 }

@@ -57,7 +57,7 @@ fn put_line(out: &mut [u8], at: usize, entry: Entry) -> usize
 
 // The lines of a valid image, whose entries leave room for each other in an output that has room for the longest listing.
 fn put_lines(image: &[u8], out: &mut [u8]) -> usize
-    requires { ⌜ (validImage (now image) ≡ true) × (1005 ≤ length (now out)) ⌝ }
+    requires { ⌜ (validImage (now image) ≡ true) × (1197 ≤ length (now out)) ⌝ }
     ensures { λ r. ⌜ Put (now (out .entry)) 0 (title ++ lines (now (image .entry)) (countOf (now (image .entry)))) (now (out .exit)) r ⌝ }
 {
     let count = octet_at(image, 1);
@@ -72,7 +72,7 @@ fn put_lines(image: &[u8], out: &mut [u8]) -> usize
 
 // The listing; a refused image, which an input over 1,794 octets is too, has the one line.
 pub(crate) fn put_listing(image: &[u8], out: &mut [u8]) -> usize
-    requires { ⌜ 1005 ≤ length (now out) ⌝ }
+    requires { ⌜ 1197 ≤ length (now out) ⌝ }
     ensures { λ r. ⌜ Put (now (out .entry)) 0 (listing (now (image .entry))) (now (out .exit)) r ⌝ }
 {
     if image_ok(image) {

@@ -1,9 +1,11 @@
--- Document 01, 'Managed numbers': octet stores. A plan says by rule how many there are and what each one is; they are made in order, and a
--- cut leaves the first j of them.
+-- Document 01, 'Managed numbers', and document 02, request 5: octet stores. A plan says by rule how many there are and what each one is;
+-- they are made in order, and a cut leaves the first j of them.
 -- Assumes nothing.
 use Prim.Native.Nat.{ℕ, zero, suc, _+_, _-_, _*_, _/_, _%_, _^_}
+use mathlib.Core.Bool.{cond}
 use mathlib.Core.List.{List, [], _∷_, _++_}
 use lib.Count.{trailingZeros}
+use lib.Dec.{eqb}
 use lib.ListN.{set, take}
 use Rattle.marks.specs.Gray.{gray}
 use Rattle.marks.specs.declared.plans.Plan.{Plan}
@@ -36,11 +38,15 @@ raisingStore at m i = storeOf at (m + i)
 -- how many stores it has
 abbrev pub storesIn : Plan → ℕ
 storesIn plan.Nothing = 0
+storesIn (plan.One s) = 1
+storesIn (plan.Two s t) = 2
 storesIn (plan.Raise at from to) = to - from
 
 -- store i of them
 abbrev pub storeAt : Plan → ℕ → Store
 storeAt plan.Nothing i = record { at = 0; value = 0 }
+storeAt (plan.One s) i = s
+storeAt (plan.Two s t) i = cond (eqb i 0) s t
 storeAt (plan.Raise at from to) i = raisingStore at from i
 
 -- the list f 0, f 1, .., f (n - 1)

@@ -1,7 +1,9 @@
-// Document 01, 'Managed numbers': octet stores by plan, and the first j of them.
+// Document 01, 'Managed numbers', and document 02, request 5: octet stores by plan, and the first j of them.
 use crate::gray::gray_of;
 ghost use mathlib.Core.Path.{_≡_};
 ghost use Prim.Native.Nat.{_+_, _-_, _<_, _^_, min};
+ghost use mathlib.Core.Bool.{cond};
+ghost use lib.Dec.{eqb};
 ghost use lib.ListN.{length, set};
 ghost use Rattle.marks.specs.Stores.{flippedOctet, codeOctet, storeOf, storesIn, storeAt, storesOf, firstStores, stored};
 
@@ -14,6 +16,9 @@ pub struct Store {
 // What a call stores, before any of it is stored.
 pub enum Plan {
     Nothing,
+    // An octet; two octets, one behind the other in time.
+    One(Store),
+    Two(Store, Store),
     // The mark at a place is raised from one value to another, one at a time.
     Raise { at: u16, from: u32, to: u32 },
 }
@@ -60,6 +65,8 @@ fn stores_in(plan: Plan) -> u32
 {
     match plan {
         Plan::Nothing => 0,
+        Plan::One(_) => 1,
+        Plan::Two(_, _) => 2,
         Plan::Raise { at: _, from, to } => less(to, from),
     }
 }
@@ -73,12 +80,23 @@ fn less(to: u32, from: u32) -> u32
     to - from
 }
 
+fn either(i: u32, first: Store, second: Store) -> Store
+    ensures { λ r. ⌜ r ≡ cond (eqb i 0) first second ⌝ }
+{
+    if i == 0 {
+        return first;
+    }
+    second
+}
+
 fn store_at(plan: Plan, i: u32) -> Store
     requires { ⌜ i < storesIn plan ⌝ }
     ensures { λ r. ⌜ r ≡ storeAt plan i ⌝ }
 {
     match plan {
         Plan::Nothing => Store { at: 0, value: 0 },
+        Plan::One(store) => store,
+        Plan::Two(first, second) => either(i, first, second),
         Plan::Raise { at, from, to: _ } => raise_at(at, from + i),
     }
 }

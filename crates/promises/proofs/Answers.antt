@@ -61,12 +61,12 @@ alone (rule refusal kept behind) x y (inr a) (inr b) = alone behind x y (a .1) (
 
 -- ---- by number alone
 
-unfoldable Numbered : Rules → ℕ → Type 0
+unfoldable pub Numbered : Rules → ℕ → Type 0
 Numbered (rule refusal kept behind) n = ((kept → ⊥) × (n ≡ reported refusal .number)) ⊎ (kept × Numbered behind n)
 Numbered noMore n = n ≡ 0
 
 -- whether every rule refuses: with a number above 0, length 0 and 0 stores
-abbrev refusing : Rules → Bool
+abbrev pub refusing : Rules → Bool
 refusing (rule refusal kept behind) =
     ltb 0 (reported refusal .number)
     && eqb (reported refusal .length) 0
@@ -75,7 +75,7 @@ refusing (rule refusal kept behind) =
 refusing noMore = true
 
 -- a call that is not done reports nothing but its number, so the number decides what it reports
-abbrev Silent : Left → Type 0
+abbrev pub Silent : Left → Type 0
 Silent x = (x .answer ≡ 0 → ⊥) → (x .length ≡ 0) × (x .stores ≡ 0)
 
 reports : (rules : Rules) (x : Left) → Silent x → refusing rules ≡ true → Numbered rules (x .answer) → Gives rules (reportOf x)
@@ -91,33 +91,33 @@ reports (rule refusal kept behind) x silent r (inl b) =
     inl (b .0, whole)
 reports (rule refusal kept behind) x silent r (inr b) = inr (b .0, reports behind x silent (search and-right) (b .1))
 
-exactly : (rules : Rules) (x : Left) → Silent x → refusing rules ≡ true → Numbered rules (x .answer) → Exactly rules (reportOf x)
+pub exactly : (rules : Rules) (x : Left) → Silent x → refusing rules ≡ true → Numbered rules (x .answer) → Exactly rules (reportOf x)
 exactly rules x silent r numbered =
     let gives = reports rules x silent r numbered in
     record { given = gives; alone = λ y other. alone rules y (reportOf x) other gives }
 
 -- ---- a test and its rule
 
-step : (refusal : Answer) (broken : Bool) (tests : List Test) (kept : Type 0) (behind : Rules) → (broken ≡ true → kept → ⊥)
+pub step : (refusal : Answer) (broken : Bool) (tests : List Test) (kept : Type 0) (behind : Rules) → (broken ≡ true → kept → ⊥)
     → (broken ≡ false → kept × Numbered behind (first tests))
     → Numbered (rule refusal kept behind) (first ((reported refusal .number, broken) ∷ tests))
 unfolding first Numbered
 step refusal true tests kept behind breaks keeps = inl (breaks refl, refl)
 step refusal false tests kept behind breaks keeps = inr (keeps refl)
 
-next-rule : (refusal : Answer) (broken : Bool) (tests : List Test) (kept : Type 0) (behind : Rules) → (broken ≡ true → kept → ⊥)
+pub next-rule : (refusal : Answer) (broken : Bool) (tests : List Test) (kept : Type 0) (behind : Rules) → (broken ≡ true → kept → ⊥)
     → (broken ≡ false → kept) → Numbered behind (first tests)
     → Numbered (rule refusal kept behind) (first ((reported refusal .number, broken) ∷ tests))
 next-rule refusal broken tests kept behind breaks keeps then = step refusal broken tests kept behind breaks (λ t. (keeps t, then))
 
-last-done : Numbered noMore (first [])
+pub last-done : Numbered noMore (first [])
 unfolding first Numbered
 last-done = refl
 
-differ : (b : Bool) → b ≡ true → b ≡ false → ⊥
+pub differ : (b : Bool) → b ≡ true → b ≡ false → ⊥
 differ b p q = let z : _≡_ {A = ℕ} 0 1 = cc in omega arith
 
-accepting : (last window n : ℕ) → last < n → n ≤ last + window → n ≤ greatest → accepts last window n ≡ true
+pub accepting : (last window n : ℕ) → last < n → n ≤ last + window → n ≤ greatest → accepts last window n ≡ true
 accepting last window n above near most =
     ap₂ _&&_ (ap₂ _&&_ (lt-ltb last n above) (le-leb n (last + window) near)) (le-leb n greatest most)
 
@@ -331,6 +331,10 @@ answering =
             ten = refl;
             eleven = refl;
             twelve = refl;
+            thirteen = refl;
+            fourteen = refl;
+            fifteen = refl;
+            sixteen = refl;
           };
       loading = λ image numbers octets.
           exactly (loadRules image) (loaded image numbers)

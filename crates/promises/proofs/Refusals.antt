@@ -17,13 +17,13 @@ use Rattle.promises.specs.Refusals.{Untouched, Refusals}
 untouched : (answer : ℕ) (image numbers output : List ℕ) → Untouched image numbers output (refused answer image numbers output)
 untouched answer image numbers output = record { length = refl; stores = refl; images = refl; lasts = refl; outputs = refl }
 
-by-answer : (r : Reply) (image numbers output : List ℕ) → let x = left r image numbers output in
+pub by-answer : (r : Reply) (image numbers output : List ℕ) → let x = left r image numbers output in
     (x .answer ≡ 0 → ⊥) → Untouched image numbers output x
 by-answer r image numbers output not-done =
     rw (left-refused r image numbers output (λ z. not-done (left-answer r image numbers output ∙ z)))
     (untouched (r .answer) image numbers output)
 
-cut-by-answer : (r : Reply) (image numbers output : List ℕ) (j : ℕ) → (left r image numbers output .answer ≡ 0 → ⊥) → cut r image j ≡ image
+pub cut-by-answer : (r : Reply) (image numbers output : List ℕ) (j : ℕ) → (left r image numbers output .answer ≡ 0 → ⊥) → cut r image j ≡ image
 cut-by-answer r image numbers output j not-done = cut-refused r image j (λ z. not-done (left-answer r image numbers output ∙ z))
 
 by-test : (t : Bool) (image numbers : List ℕ)

@@ -135,7 +135,7 @@ module _ (right : Bool) (image numbers : List ℕ) (said : Said) (frame output :
         agree = ok .front .agree;
         serves = serving image 2 said (spiOn said frame) frame e-check (f .below) (rw (spi-on said frame) (f .passes));
         above = took .above;
-        near = omega (arith, took .near, window-small image numbers e-check (ok .front .valid) (f .below));
+        near = omega (arith, took .near, window-small image numbers w e-check (ok .front .valid) (f .below) (f .passes));
         fits = took .fits;
         entry = refl;
         plan = refl;

@@ -15,7 +15,7 @@ use Rattle.octets.proofs.Alls.{and-left, and-right, all-every}
 use Rattle.octets.proofs.Numbers.{numberAt-lt}
 use Rattle.kinds.specs.Kinds.{hasMap, kindOf, named}
 use Rattle.bodies.specs.Body.{serviceOf, kindIn, directionOf, stateOf, spacecraftOf, channelOf, holdsSet, mapOf, windowOf, maskOf}
-use Rattle.bodies.specs.Body.{channelOk, kindOk, bodyOk}
+use Rattle.bodies.specs.Body.{channelOk, kindOk, windowFits, windowOk, bodyOk}
 use Rattle.marks.specs.Gray.{gray, ungray}
 use Rattle.image.specs.Image.{versionOf, countOf, spiOf, spiBefore, positionOf, bodyAt, bodyOf, imageSize, laidOut, entryOk, validImage}
 use Rattle.bodies.specs.Layout.{layoutOf, versionOk}
@@ -105,7 +105,7 @@ module _ (image : List ℕ) (octets : Octets image) where
         channel = λ one. rw (← channel-at image i, ← kinds, f .mostChannel) (a .channel (set-at image i ∙ one));
         channels = λ set. rw (← channel-at image i) (a .channels (set-at image i ∙ set));
         map = rw (← map-at image i, ← kinds, f .mostMap) (a .map);
-        window = rw (← window-at image i) (b .window);
+        window = λ serves. rw (← window-at image i) (b .window (state-at image i ∙ serves));
         mask = λ tc. sym (last-mask-at image i) ∙ (rw (mask-of-tc (kindIn (bodyOf image i)) (kinds ∙ tc)) at (a .mask));
         mark = rw (code-of-mark image octets i) (gray-lt 26 (markIn image i) (b .mark));
       }
@@ -127,7 +127,7 @@ module _ (image : List ℕ) (octets : Octets image) where
 
 -- ---- and one that obeys the rules is valid
 
-between-tested : (low x high : ℕ) → (low ≤ x) × (x ≤ high) → (leb low x && leb x high) ≡ true
+pub between-tested : (low x high : ℕ) → (low ≤ x) × (x ≤ high) → (leb low x && leb x high) ≡ true
 between-tested low x high h = ap₂ _&&_ (le-leb low x (h .0)) (le-leb x high (h .1))
 
 implied : (a b : Bool) → (a ≡ true → b ≡ true) → (not a || b) ≡ true
@@ -177,6 +177,14 @@ module _ (image : List ℕ) (octets : Octets image) where
         le-leb (channelOf body) (kindOf (kindIn body) .mostChannel)
         (rw (channel-at image i, ← limits .mostChannel, kind-at image i) (b .channel (sym (set-at image i) ∙ one))))
 
+    window-ok : windowOk body ≡ true
+    window-ok = by-state (eqb (stateOf body) 2) refl
+      where
+        by-state : (t : Bool) → eqb (stateOf body) 2 ≡ t → (not t || windowFits (windowOf body)) ≡ true
+        by-state true e =
+            between-tested 1 (windowOf body) 1024 (rw (window-at image i) (b .window (sym (state-at image i) ∙ eqb-true (stateOf body) 2 e)))
+        by-state false e = refl
+
     pub body-ok : bodyOk (versionOf image) body ≡ true
     unfolding bodyOk markIn
     body-ok =
@@ -192,7 +200,7 @@ module _ (image : List ℕ) (octets : Octets image) where
         channel-ok
         (rw (map-at image i, ← limits .mostMap, kind-at image i) (b .map))
         (λ e. last-mask-at image i ∙ b .mask (sym (kind-at image i) ∙ e))))
-        (between-tested 1 (windowOf body) 1024 (rw (window-at image i) (b .window))))
+        window-ok)
         (lt-ltb (markIn image i) (2 ^ 26) mark-fits)
 
 module _ (image : List ℕ) (octets : Octets image) (rules : ImageRules image) where
@@ -245,7 +253,7 @@ module _ (image : List ℕ) (i : ℕ) where
             );
       }
 
-  serves-channel : (channel : ℕ) → ServesChannel image i channel → servesChannel (versionOf image) (bodyOf image i) channel ≡ true
+  pub serves-channel : (channel : ℕ) → ServesChannel image i channel → servesChannel (versionOf image) (bodyOf image i) channel ≡ true
   serves-channel channel s =
       let body = bodyOf image i in
       chosen (holdsSet (versionOf image) body) (inSet (channelOf body) channel) (eqb (channelOf body) channel)

@@ -36,6 +36,10 @@ pub record Table : Type 0 where
   pub ten : reported answer.NumbersSpent ≡ reporting 10 0 0
   pub eleven : reported answer.TooLong ≡ reporting 11 0 0
   pub twelve : reported answer.WrongCheckField ≡ reporting 12 0 0
+  pub thirteen : reported answer.BadCommand ≡ reporting 13 0 0
+  pub fourteen : reported answer.UnknownSpi ≡ reporting 14 0 0
+  pub fifteen : reported answer.WrongState ≡ reporting 15 0 0
+  pub sixteen : reported answer.BadValue ≡ reporting 16 0 0
 
 -- ---- the first rule that is broken
 

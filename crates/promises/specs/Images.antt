@@ -1,6 +1,7 @@
--- Document 01, 'The image' and 'Managed numbers', and document 02, request 2, in the octets of an image: where each field of an entry
--- stands, what a valid image is, when numbers agree with it, and which entry serves a frame. The promises speak of an image in these words
--- and not in those of the definitions that they are about, so that a definition which reads another octet or drops a rule breaks a promise.
+-- Document 01, 'The image' and 'Managed numbers', and document 02, requests 2 and 5, in the octets of an image: where each field of an
+-- entry stands, what a valid image is, when numbers agree with it, and which entry serves a frame. The promises speak of an image in these
+-- words and not in those of the definitions that they are about, so that a definition which reads another octet or drops a rule breaks a
+-- promise.
 -- Assumes nothing.
 use Prim.Native.Nat.{ℕ, _+_, _*_, _/_, _%_, _^_, _≤_, _<_}
 use mathlib.Core.Path.{_≡_}
@@ -95,7 +96,7 @@ pub record BodyRules (image : List ℕ) (i : ℕ) : Type 0 where
   pub channel : isSet image i ≡ false → channelAt image i ≤ formOf (kindAt image i) .mostChannel
   pub channels : isSet image i ≡ true → 1 ≤ channelAt image i
   pub map : mapAt image i ≤ formOf (kindAt image i) .mostMap
-  pub window : (1 ≤ windowAt image i) × (windowAt image i ≤ 1024)
+  pub window : stateAt image i ≡ 2 → (1 ≤ windowAt image i) × (windowAt image i ≤ 1024)
   pub mask : kindAt image i ≡ 1 → octet image (place image i 15) ≡ 0
   pub mark : codeAt image i < 2 ^ 26
 

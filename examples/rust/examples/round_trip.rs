@@ -1,6 +1,6 @@
 //! The ground secures a telecommand frame and the spacecraft checks it; a replay is refused; both restart and go on.
 
-use xistalvo::{check, load, secure, Kind, Numbers, Refusal};
+use xistalvo::{check, command, load, secure, Kind, Numbers, Refusal};
 
 const SPI: u16 = 9;
 const SEND: u8 = 1;
@@ -55,6 +55,15 @@ fn receive(space: &mut End, what: &str, frame: &[u8]) {
     }
 }
 
+/// A management command, here one that changes nothing. Over a link, its octets are what a check released.
+fn read_number(space: &mut End) -> Result<(), Refusal> {
+    let mut output = [0; 17];
+    let done = command(&mut space.image, &mut space.numbers, &[0x10, 0, 2, 0, SPI as u8], &mut output)?;
+    let hex: String = output[..done.length].iter().map(|octet| format!(" {octet:02X}")).collect();
+    println!("read number: 0, done; reply{hex}");
+    Ok(())
+}
+
 fn round_trip() -> Result<(), Refusal> {
     let mut ground = start("ground", build_image(SEND))?;
     let mut space = start("spacecraft", build_image(RECEIVE))?;
@@ -69,7 +78,7 @@ fn round_trip() -> Result<(), Refusal> {
 
     let mut space = start("spacecraft", space.image)?; // the spacecraft restarts too, and still knows the frame
     receive(&mut space, "the same frame again", &frame);
-    Ok(())
+    read_number(&mut space)
 }
 
 fn main() {

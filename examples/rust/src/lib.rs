@@ -35,6 +35,10 @@ pub enum Refusal {
     NumbersUsedUp = 10,
     SecuredTooLong = 11,
     CheckFieldDiffers = 12,
+    BadCommand = 13,
+    UnknownSpi = 14,
+    WrongState = 15,
+    ValueRefused = 16,
 }
 
 impl Refusal {
@@ -57,6 +61,10 @@ impl Refusal {
             Refusal::NumbersUsedUp => "numbers used up",
             Refusal::SecuredTooLong => "secured frame would be too long",
             Refusal::CheckFieldDiffers => "check field differs",
+            Refusal::BadCommand => "no such command, or of another length",
+            Refusal::UnknownSpi => "no association has the SPI",
+            Refusal::WrongState => "state does not allow the command",
+            Refusal::ValueRefused => "value not allowed",
         }
     }
 }
@@ -96,6 +104,16 @@ mod interface {
             output: *mut u8,
             output_length: usize,
         ) -> u64;
+        pub fn xistalvo_command(
+            image: *mut u8,
+            image_length: usize,
+            numbers: *mut u32,
+            numbers_length: usize,
+            command: *const u8,
+            command_length: usize,
+            output: *mut u8,
+            output_length: usize,
+        ) -> u64;
         pub fn xistalvo_raise(image: *mut u8, image_length: usize, entry: u8, number: u32, stores: u32) -> u32;
     }
 }
@@ -115,6 +133,10 @@ fn unpack(result: u64) -> Result<Done, Refusal> {
         10 => Refusal::NumbersUsedUp,
         11 => Refusal::SecuredTooLong,
         12 => Refusal::CheckFieldDiffers,
+        13 => Refusal::BadCommand,
+        14 => Refusal::UnknownSpi,
+        15 => Refusal::WrongState,
+        16 => Refusal::ValueRefused,
         other => unreachable!("the module has no answer {other}"),
     };
     Err(refusal)
@@ -177,6 +199,23 @@ pub fn check(
             check_field as u8,
             frame.as_ptr(),
             frame.len(),
+            output.as_mut_ptr(),
+            output.len(),
+        )
+    })
+}
+
+/// Carries out a management command: tag, length of the value in 2 octets, value. A reply fills the start of the output.
+pub fn command(image: &mut [u8], numbers: &mut Numbers, command: &[u8], output: &mut [u8]) -> Result<Done, Refusal> {
+    // Safety: as for `secure`.
+    unpack(unsafe {
+        interface::xistalvo_command(
+            image.as_mut_ptr(),
+            image.len(),
+            numbers.0.as_mut_ptr(),
+            numbers.0.len(),
+            command.as_ptr(),
+            command.len(),
             output.as_mut_ptr(),
             output.len(),
         )

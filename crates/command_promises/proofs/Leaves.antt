@@ -1,0 +1,283 @@
+-- What a command that answers 0 leaves: its stores are those of its procedure's record, at the entry that it names.
+-- Assumes nothing.
+use Prim.Native.Nat.{ℕ, _+_, _-_, _/_, _≤_, min}
+use mathlib.Core.Path.{_≡_, refl, sym, ap, ap₂, subst, _∙_}
+use mathlib.Core.Bool.{true}
+use mathlib.Core.List.{List, [], _∷_}
+use native.Mathlib.Omega.{arith}
+use lib.ListN.{length, set, take}
+use lib.Seq.{take-length, take-nil, getD-drop, set-getD}
+use Rattle.octets.specs.Lists.{octet, Octets}
+use Rattle.octets.specs.Numbers.{numberAt, bytes}
+use Rattle.marks.specs.Gray.{gray}
+use Rattle.marks.specs.Stores.{stored}
+use Rattle.marks.specs.declared.plans.Store.{Store}
+use Rattle.bodies.specs.Body.{stateOf}
+use Rattle.image.specs.Image.{versionOf, bodyAt, bodyOf, markIn, validImage}
+use Rattle.image.proofs.ValidImages.{valid}
+use Rattle.association.specs.Stores.{storesFor, afterStores}
+use Rattle.association.specs.Search.{withSpi}
+use Rattle.association.specs.declared.search.Found.{Found}
+use Rattle.association.specs.declared.search.Found.the-variants as found
+use Rattle.association.proofs.AfterStores.{Raised, raised, after-all}
+use Rattle.association.proofs.LoadedNumbers.{agreed}
+use Rattle.judging.specs.Replies.{Reply}
+use Rattle.link.specs.Calls as link
+use Rattle.link.proofs.Leaving.{left-answer, left-done, cut-done}
+use Rattle.procedures.specs.Form.{frontLength, valueOf, spiNamed, numberAsked}
+use Rattle.procedures.specs.Procedures.{Procedure, procedureIs, procedures, withTag, setNumber}
+use Rattle.procedures.specs.declared.procedure.Called.the-variants as calls
+use Rattle.procedures.specs.declared.procedure.Procedure as code
+use Rattle.procedures.specs.declared.procedure.Procedure.the-variants as procedure
+use Rattle.procedures.proofs.Calling.{called-parts}
+use Rattle.commands.specs.Commanding.{entryNamed, replyAt, commandReply, commanded, commandedCut}
+use Rattle.commands.proofs.Accepting.{Accepts}
+use Rattle.commands.proofs.Doing.{Ready, storesOf, numberFor, does, accepted-number, raises-count}
+use Rattle.commands.proofs.Done.{Done, done, Where, at, nowhere, spi-at}
+use Rattle.commands.proofs.Done as deciding
+use Rattle.commands.proofs.Managed.{Managed}
+use Rattle.promises.specs.Images.{place, spiAt, lastAt, ImageRules, Agreeing}
+use Rattle.promises.specs.Leaves.{MarkAlone}
+use Rattle.promises.proofs.Fields.{stands, state-at}
+use Rattle.promises.proofs.Stored.{outside}
+use Rattle.promises.proofs.Valids.{code-of-mark, rules-kept, agreement}
+use Rattle.command_promises.specs.Leaves.{Lawfully, Leaves, SetsNumber, LeavesAt, CommandLeaving, writes}
+use Rattle.command_promises.specs.Rows.{Names}
+use Rattle.command_promises.proofs.Shifted.{shifted}
+
+-- ---- from what is decided to what is left
+
+module _ (image numbers c output : List ℕ) (z : commanded image numbers c output .answer ≡ 0) where
+  abbrev q : Reply
+  q = commandReply image numbers c (length output)
+
+  pub decided-so : q .answer ≡ 0
+  unfolding commanded
+  decided-so = sym (left-answer q image numbers output) ∙ z
+
+  pub is-done : Done image numbers c (length output)
+  is-done = done image numbers c (length output) decided-so
+
+  pub passed : validImage image ≡ true
+  passed = is-done .valid
+
+  pub carried : commanded image numbers c output ≡ link.done q image numbers output
+  unfolding commanded
+  carried = left-done q image numbers output decided-so
+
+  pub carried-cut : (j : ℕ) → commandedCut image numbers c output j ≡ stored image (take j (q .stores))
+  unfolding commandedCut
+  carried-cut j = cut-done q image j decided-so
+
+  leaves : (stores : List Store) (last reply : List ℕ) → q .stores ≡ stores → set numbers (q .entry) (q .number) ≡ last → q .result ≡ reply
+      → Leaves image numbers c output stores last reply
+  leaves stores last reply s l r =
+      let sized : q .size ≡ length (q .result) = rw (is-done .reply) refl in
+      record {
+        whole = rw (carried, s) refl;
+        cut = λ j. rw (carried-cut j, s) refl;
+        count = rw (carried, s) refl;
+        lasts = rw (carried, l) refl;
+        size = rw (carried, sized, r) refl;
+        outputs = rw (carried, sized, r) refl;
+      }
+
+  -- the procedure by its tag
+  procedure-is : (r : code.Procedure) → withTag (procedureIs r .tag) procedures ≡ calls.Procedure r → octet c 0 ≡ procedureIs r .tag
+      → is-done .procedure ≡ r
+  procedure-is r w t =
+      let a = called-parts c (is-done .procedure) (is-done .calls) .0 in
+      let b : calls.Procedure (is-done .procedure) ≡ calls.Procedure r =
+      sym a ∙ ap (λ (n : ℕ). withTag n procedures) t ∙ w in
+      cc
+
+  -- ---- whatever the command
+
+  module _ (octets : Octets image) (spoken : Octets c) (thirtyTwo : length numbers ≡ 32) where
+    pub where-done : Where image numbers c q
+    where-done = deciding.place image numbers c (length output) octets spoken thirtyTwo is-done
+
+    pub cut-managed : (j : ℕ) → Where image numbers c q
+        → (validImage (stored image (take j (q .stores))) ≡ true) × Octets (stored image (take j (q .stores)))
+    unfolding stored
+    cut-managed j (at p i calls listed spi ready is) =
+        let m = does p image numbers i (valueOf c) ready .after j in
+        rw is (m .valid, m .octets)
+    cut-managed j (nowhere none same) = rw (none, take-nil {A = Store} j) (passed, octets)
+
+    whole-managed : (validImage (stored image (q .stores)) ≡ true) × Octets (stored image (q .stores))
+    whole-managed = rw (take-length (q .stores)) at (cut-managed (length (q .stores)) where-done)
+
+    whole-agrees : Where image numbers c q → Agreeing (stored image (q .stores)) (set numbers (q .entry) (q .number))
+    unfolding stored
+    whole-agrees (at p i calls listed spi ready is) =
+        let w = does p image numbers i (valueOf c) ready in
+        let stores : List Store = storesOf (procedureIs p) image numbers i (valueOf c) in
+        let m : Managed image i (stored image stores) = rw (take-length stores) at (w .after (length stores)) in
+        rw is (agreement (stored image stores) (set numbers i (numberFor (procedureIs p) numbers i (valueOf c))) (m .octets) (w .agree))
+    whole-agrees (nowhere none same) = rw (none, same) (agreement image numbers octets (is-done .agree))
+
+    few : Where image numbers c q → length (q .stores) ≤ 16
+    few (at p i calls listed spi ready is) = rw is (does p image numbers i (valueOf c) ready .few)
+    few (nowhere none same) = rw none (omega arith)
+
+    pub octets-after : Octets (commanded image numbers c output .image)
+    octets-after = rw carried (whole-managed .1)
+
+    lawfully : Lawfully image numbers c output
+    lawfully =
+        record {
+          valid = λ rules. rw carried (rules-kept (stored image (q .stores)) (whole-managed .1) (whole-managed .0));
+          cutValid = λ j rules.
+              let m = cut-managed j where-done in rw (carried-cut j) (rules-kept (stored image (take j (q .stores))) (m .1) (m .0));
+          agree = rw carried (whole-agrees where-done);
+          few = rw carried (few where-done);
+        }
+
+    -- ---- under entry e
+
+    module _ (e : ℕ) (names : Names image c e) where
+      spi-is : spiAt image e ≡ spiNamed (valueOf c)
+      spi-is = names .spi ∙ sym (shifted c 0 2)
+
+      -- the entry and the reply, of a procedure that names an association
+      module _ (r : code.Procedure) (is : is-done .procedure ≡ r) (n : procedureIs r .names ≡ true) where
+        entry-is : is-done .entry ≡ e
+        unfolding entryNamed
+        entry-is =
+            let named : withSpi image (spiNamed (valueOf c)) ≡ found.At (is-done .entry) = rw (is, n) at (is-done .named) in
+            let here = spi-at image (valid image passed) (spiNamed (valueOf c)) e (names .entry) spi-is in
+            let same : found.At (is-done .entry) ≡ found.At e = sym named ∙ here in
+            cc
+
+        pub settled : q ≡ replyAt 0 (procedureIs r) image numbers e (valueOf c)
+        settled =
+            is-done .reply
+            ∙ ap₂ (λ (x : code.Procedure) (i : ℕ). replyAt 0 (procedureIs x) image numbers i (valueOf c)) is entry-is
+
+        pub ready-at : Ready (procedureIs r) image numbers e (valueOf c)
+        ready-at =
+            let u : Accepts (procedureIs r) (versionOf image) (bodyOf image e) (lastAt numbers e) (valueOf c) (length output) =
+            subst (λ (i : ℕ). Accepts (procedureIs r) (versionOf image) (bodyOf image i) (lastAt numbers i) (valueOf c) (length output)) entry-is
+            (subst
+            (λ (x : code.Procedure).
+            Accepts (procedureIs x) (versionOf image) (bodyOf image (is-done .entry)) (lastAt numbers (is-done .entry)) (valueOf c) (length output)) is
+            (is-done .under))
+            in
+            record {
+              valid = passed;
+              octets = octets;
+              thirtyTwo = thirtyTwo;
+              agree = is-done .agree;
+              listed = names .entry;
+              octetsIn = λ i. rw (getD-drop frontLength c i 0) (spoken (frontLength + i));
+              asked = u .asked;
+              allowed = u .allowed;
+            }
+
+        by : (stores : List Store) (last reply : List ℕ)
+            → storesOf (procedureIs r) image numbers e (valueOf c) ≡ stores
+            → set numbers e (numberFor (procedureIs r) numbers e (valueOf c)) ≡ last
+            → procedureIs r .reply (spiNamed (valueOf c)) (stateOf (bodyOf image e)) (lastAt numbers e) ≡ reply
+            → Leaves image numbers c output stores last reply
+        by stores last reply s l p =
+            leaves stores last reply (ap (λ (x : Reply). x .stores) settled ∙ s)
+            (ap (λ (x : Reply). set numbers (x .entry) (x .number)) settled ∙ l) (ap (λ (x : Reply). x .result) settled ∙ p)
+
+      value-octet : (i : ℕ) → octet (valueOf c) i ≡ octet c (3 + i)
+      value-octet i = getD-drop frontLength c i 0
+
+      -- one store of the state
+      moved : (r : code.Procedure) → withTag (procedureIs r .tag) procedures ≡ calls.Procedure r → procedureIs r .names ≡ true → (state : ℕ)
+          → storesOf (procedureIs r) image numbers e (valueOf c) ≡ writes (bodyAt image e + 3) state ∷ []
+          → numberFor (procedureIs r) numbers e (valueOf c) ≡ lastAt numbers e
+          → procedureIs r .reply (spiNamed (valueOf c)) (stateOf (bodyOf image e)) (lastAt numbers e) ≡ []
+          → octet c 0 ≡ procedureIs r .tag → Leaves image numbers c output (writes (place image e 3) state ∷ []) numbers []
+      moved r w n state s l p t =
+          by r (procedure-is r w t) n _ _ _ (s ∙ ap (λ (a : ℕ). writes a state ∷ []) (stands image e 3))
+          (ap (set numbers e) l ∙ set-getD numbers e 0) p
+
+      -- set number
+      module _ (t : octet c 0 ≡ 0x1A) (w : withTag 0x1A procedures ≡ calls.Procedure procedure.SetNumber) where
+        abbrev n : ℕ
+        n = numberAsked (valueOf c)
+
+        so : is-done .procedure ≡ procedure.SetNumber
+        so = procedure-is procedure.SetNumber w t
+
+        ready : Ready setNumber image numbers e (valueOf c)
+        ready = ready-at procedure.SetNumber so refl
+
+        old : lastAt numbers e / 64 ≡ markIn image e
+        old = agreed image numbers (is-done .agree) e (names .entry)
+
+        mark-alone : (j : ℕ) → MarkAlone image e (lastAt numbers e / 64 + min j (n / 64 - lastAt numbers e / 64)) (afterStores image e n j)
+        mark-alone j =
+            let r : Raised image e (markIn image e + min j (n / 64 - markIn image e)) (afterStores image e n j) =
+            raised image e n j passed octets (names .entry) (accepted-number image numbers e (valueOf c) ready .fits) in
+            let reached : markIn (afterStores image e n j) e ≡ lastAt numbers e / 64 + min j (n / 64 - lastAt numbers e / 64) =
+            omega (arith, r .mark, old) in
+            record {
+              valid = rules-kept (afterStores image e n j) (r .octets) (r .valid);
+              size = r .long;
+              elsewhere = λ p side. r .outside p (outside image e p side);
+              mark = code-of-mark (afterStores image e n j) (r .octets) e ∙ ap gray reached;
+            }
+
+        raised-so : Leaves image numbers c output (storesFor image e n) (set numbers e n) []
+        raised-so = by procedure.SetNumber so refl _ _ _ refl refl refl
+
+        sets : SetsNumber image numbers c output e n
+        unfolding afterStores
+        sets =
+            let m = n / 64 - lastAt numbers e / 64 in
+            let all : lastAt numbers e / 64 + min m m ≡ n / 64 =
+            omega (arith, accepted-number image numbers e (valueOf c) ready .above) in
+            record {
+              cut = λ j. rw (raised-so .cut j) (mark-alone j);
+              whole =
+                  rw (raised-so .whole, ← after-all image e n m (omega (arith, raises-count image numbers e (valueOf c) ready, old)))
+                  (rw all at (mark-alone m));
+              count = raised-so .count ∙ omega (arith, raises-count image numbers e (valueOf c) ready, old);
+              lasts = raised-so .lasts;
+              size = raised-so .size;
+              outputs = raised-so .outputs;
+            }
+
+      at-entry : LeavesAt image numbers c output e
+      unfolding withTag bytes
+      at-entry =
+          record {
+            start = moved procedure.Start refl refl 2 refl refl refl;
+            stop = moved procedure.Stop refl refl 1 refl refl refl;
+            rekey = moved procedure.Rekey refl refl 1 refl refl refl;
+            expire = moved procedure.Expire refl refl 0 refl refl refl;
+            setWindow = λ t.
+                by procedure.SetWindow (procedure-is procedure.SetWindow refl t) refl _ _ _
+                (rw (value-octet 2, value-octet 3, stands image e 8, stands image e 9) refl) (set-getD numbers e 0) refl;
+            status = λ t.
+                by procedure.Status (procedure-is procedure.Status refl t) refl _ _ _ refl (set-getD numbers e 0)
+                (rw (← spi-is, state-at image e) refl);
+            readNumber = λ t.
+                by procedure.ReadNumber (procedure-is procedure.ReadNumber refl t) refl _ _ _ refl (set-getD numbers e 0)
+                (rw (← spi-is) refl);
+            setNumber = λ t. rw (shifted c 2 12) at (sets t refl);
+          }
+
+-- ---- all of them
+
+pub command-leaving : CommandLeaving
+unfolding withTag bytes
+command-leaving =
+    record {
+      always = λ image numbers c output octets spoken thirtyTwo z. lawfully image numbers c output z octets spoken thirtyTwo;
+      named = λ image numbers c output e octets spoken thirtyTwo names z. at-entry image numbers c output z octets spoken thirtyTwo e names;
+      ping = λ image numbers c output t z.
+          let d = is-done image numbers c output z in
+          let so = procedure-is image numbers c output z procedure.Ping refl t in
+          let settled = d .reply ∙ ap (λ (x : code.Procedure). replyAt 0 (procedureIs x) image numbers (d .entry) (valueOf c)) so in
+          leaves image numbers c output z [] numbers (0xB1 ∷ 0 ∷ 0 ∷ [])
+          (ap (λ (x : Reply). x .stores) settled)
+          (ap (λ (x : Reply). set numbers (x .entry) (x .number)) settled ∙ set-getD numbers (d .entry) 0)
+          (ap (λ (x : Reply). x .result) settled);
+    }

@@ -1,0 +1,13 @@
+pub mod Answers
+pub mod Cases
+pub mod Channels
+pub mod Effects
+pub mod Isolation
+pub mod Keeps
+pub mod Leaves
+pub mod Management
+pub mod Refusals
+pub mod Rows
+pub mod Runs
+pub mod Shifted
+pub mod Unmanaged

@@ -1,0 +1,43 @@
+-- What an answer 0 of the tests under an entry means, test by test; and an output with room for a reply.
+-- Assumes nothing.
+use Prim.Native.Nat.{ℕ, _≤_}
+use mathlib.Core.Path.{_≡_}
+use mathlib.Core.Bool.{true, false, not}
+use mathlib.Core.List.{List}
+use native.Mathlib.Omega.{arith}
+use borrow.Author.Tests.{ltb-false, le-leb, not-false}
+use lib.Dec.{ltb}
+use lib.ListN.{length}
+use Rattle.octets.specs.Output.{written, fronted}
+use Rattle.bodies.specs.Body.{stateOf}
+use Rattle.judging.specs.Answers.{first}
+use Rattle.judging.proofs.First.{passed}
+use Rattle.procedures.specs.Form.{spiNamed}
+use Rattle.procedures.specs.Procedures.{Procedure}
+use Rattle.commands.specs.Commanding.{procedureTests}
+
+pub record Accepts (p : Procedure) (version : ℕ) (body : List ℕ) (last : ℕ) (value : List ℕ) (room : ℕ) : Type 0 where
+  pub asked : p .asks (stateOf body) ≡ true
+  pub allowed : p .allows version body last value ≡ true
+  pub roomy : length (p .reply (spiNamed value) (stateOf body) last) ≤ room
+
+pub accepts-all : (p : Procedure) (version : ℕ) (body : List ℕ) (last : ℕ) (value : List ℕ) (room : ℕ)
+    → first (procedureTests p version body last value room) ≡ 0 → Accepts p version body last value room
+accepts-all p version body last value room e =
+    let t15 = passed 15 (not (p .asks (stateOf body))) _ (omega arith) e in
+    let t16 = passed 16 (not (p .allows version body last value)) _ (omega arith) (t15 .1) in
+    let t6 = passed 6 (ltb room (length (p .reply (spiNamed value) (stateOf body) last))) _ (omega arith) (t16 .1) in
+    record {
+      asked = not-false (p .asks (stateOf body)) (t15 .0);
+      allowed = not-false (p .allows version body last value) (t16 .0);
+      roomy = ltb-false room (length (p .reply (spiNamed value) (stateOf body) last)) (t6 .0);
+    }
+
+-- an output with room for a text has it at its front
+pub fronted-fits : (text out : List ℕ) → length text ≤ length out → fronted text out ≡ written text out
+unfolding fronted
+fronted-fits text out h = rw (le-leb (length text) (length out) h)
+
+pub same-reply : (p : Procedure) {spi spi' state state' last last' : ℕ} → spi ≡ spi' → state ≡ state' → last ≡ last'
+    → p .reply spi state last ≡ p .reply spi' state' last'
+same-reply p a b c = cc

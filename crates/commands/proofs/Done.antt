@@ -1,0 +1,147 @@
+-- What an answer 0 of a command means: its image is valid, its numbers agree, it calls a procedure, and where that names an association, it
+-- has found the entry, and does there what the procedure does; one that names none stores nothing and changes no number.
+-- Assumes nothing.
+use mathlib.Core.Path.{_≡_, refl, sym, ap, _∙_}
+use mathlib.Core.Logic.{_≢_}
+use mathlib.Core.Bool.{Bool, true, false, not}
+use mathlib.Core.List.{List, []}
+use Prim.Native.Nat.{ℕ, _+_, _<_}
+use native.Mathlib.Omega.{arith}
+use borrow.Author.Tests.{eqb-true, eq-eqb, not-false}
+use lib.Dec.{eqb}
+use lib.ListN.{length, set}
+use lib.Seq.{getD-drop, set-getD}
+use Rattle.octets.specs.Lists.{Octets}
+use Rattle.image.specs.Image.{versionOf, countOf, spiOf, bodyOf, validImage}
+use Rattle.image.proofs.ValidImages.{Valid, valid, spi-once}
+use Rattle.association.specs.Association.{indexOf}
+use Rattle.association.specs.Numbers.{numberOf, agrees}
+use Rattle.association.specs.Search.{withSpi}
+use Rattle.association.specs.declared.search.Found.{Found}
+use Rattle.association.specs.declared.search.Found.the-variants as found
+use Rattle.association.proofs.Finding.{First, first-at, first-nothing}
+use Rattle.judging.specs.Answers.{first}
+use Rattle.judging.specs.Replies.{Reply}
+use Rattle.judging.proofs.First.{passed}
+use Rattle.procedures.specs.Form.{frontLength, valueOf, spiNamed}
+use Rattle.procedures.specs.Procedures.{procedureIs, procedureBehind, procedureOf, called}
+use Rattle.procedures.specs.declared.procedure.Called.{Called}
+use Rattle.procedures.specs.declared.procedure.Called.the-variants as calls
+use Rattle.procedures.specs.declared.procedure.Procedure as code
+use Rattle.commands.specs.Commanding.{callsNone, entryNamed, isNothing, testsAt, replyAt, commandReply}
+use Rattle.commands.proofs.Accepting.{Accepts, accepts-all}
+use Rattle.commands.proofs.Doing.{Ready, numberFor, quiet}
+
+-- ---- the entry with an SPI
+
+pub spi-found : (image : List ℕ) (spi i : ℕ) → withSpi image spi ≡ found.At i → (i < countOf image) × (spiOf image i ≡ spi)
+unfolding withSpi
+spi-found image spi i e =
+    let f : First 0 (countOf image) (λ k. eqb (spiOf image k) spi) i = first-at (countOf image) 0 (λ k. eqb (spiOf image k) spi) i e in
+    (omega (arith, f .to), eqb-true (spiOf image i) spi (f .passes))
+
+pub spi-missing : (image : List ℕ) (spi : ℕ) → withSpi image spi ≡ found.Nothing → (i : ℕ) → i < countOf image → spiOf image i ≢ spi
+unfolding withSpi
+spi-missing image spi e i h is =
+    let none : eqb (spiOf image i) spi ≡ false =
+    first-nothing (countOf image) 0 (λ k. eqb (spiOf image k) spi) e i (omega arith) (omega arith) in
+    let some : eqb (spiOf image i) spi ≡ true = eq-eqb (spiOf image i) spi is in
+    let z : _≡_ {A = ℕ} 0 1 = cc in
+    omega arith
+
+-- in a valid image no other entry has that SPI
+pub spi-at : (image : List ℕ) → Valid image → (spi e : ℕ) → e < countOf image → spiOf image e ≡ spi → withSpi image spi ≡ found.At e
+spi-at image v spi e below is = by-answer (withSpi image spi) refl
+  where
+    by-answer : (x : Found) → withSpi image spi ≡ x → x ≡ found.At e
+    by-answer (found.At i) q =
+        let f = spi-found image spi i q in
+        ap (λ (k : ℕ). found.At k) (spi-once image v i e (f .0) below (f .1 ∙ sym is))
+    by-answer found.Nothing q = absurd (spi-missing image spi q e below is)
+
+-- ---- answer 0, test by test
+
+pub record Done (image last command : List ℕ) (room : ℕ) : Type 0 where
+  pub procedure : code.Procedure
+  pub entry : ℕ
+  pub valid : validImage image ≡ true
+  pub agree : agrees image last ≡ true
+  pub calls : called command ≡ calls.Procedure procedure
+  pub named : entryNamed (procedureIs procedure) image (valueOf command) ≡ found.At entry
+  pub under : Accepts (procedureIs procedure) (versionOf image) (bodyOf image entry) (numberOf last entry) (valueOf command) room
+  pub reply : commandReply image last command room ≡ replyAt 0 (procedureIs procedure) image last entry (valueOf command)
+
+module _ (image last command : List ℕ) (room : ℕ) where
+  abbrev value : List ℕ
+  value = valueOf command
+
+  pub done : commandReply image last command room .answer ≡ 0 → Done image last command room
+  unfolding commandReply
+  done z =
+      let t1 = passed 1 (not (validImage image)) _ (omega arith) z in
+      let t2 = passed 2 (not (agrees image last)) _ (omega arith) (t1 .1) in
+      let t13 = passed 13 (callsNone (called command)) _ (omega arith) (t2 .1) in
+      let t14 = passed 14 (isNothing (entryNamed (procedureOf command) image value)) _ (omega arith) (t13 .1) in
+      by-called (not-false (validImage image) (t1 .0)) (not-false (agrees image last) (t2 .0)) (called command) refl (t13 .0) (t14 .0) (t14 .1)
+    where
+      by-found : (v : validImage image ≡ true) (a : agrees image last ≡ true) (p : code.Procedure) (c : called command ≡ calls.Procedure p)
+          (x : Found) → entryNamed (procedureIs p) image value ≡ x → isNothing x ≡ false
+          → first (testsAt (procedureIs p) image last (indexOf x) value room) ≡ 0 → Done image last command room
+      by-found v a p c (found.At e) f some u =
+          record {
+            procedure = p;
+            entry = e;
+            valid = v;
+            agree = a;
+            calls = c;
+            named = f;
+            under = accepts-all (procedureIs p) (versionOf image) (bodyOf image e) (numberOf last e) value room u;
+            reply = rw (z, c, f);
+          }
+      by-found v a p c found.Nothing f some u = let q : _≡_ {A = ℕ} 0 1 = cc in absurd (omega arith)
+
+      by-called : (v : validImage image ≡ true) (a : agrees image last ≡ true) (x : Called) → called command ≡ x → callsNone x ≡ false
+          → isNothing (entryNamed (procedureBehind x) image value) ≡ false
+          → first (testsAt (procedureBehind x) image last (indexOf (entryNamed (procedureBehind x) image value)) value room) ≡ 0
+          → Done image last command room
+      by-called v a (calls.Procedure p) c some named u = by-found v a p c (entryNamed (procedureIs p) image value) refl named u
+      by-called v a calls.Nothing c some named u = let q : _≡_ {A = ℕ} 0 1 = cc in absurd (omega arith)
+
+-- ---- where it is done: at the entry that it names, or at none
+
+pub data Where (image last command : List ℕ) (q : Reply) : Type 0 where
+  at : (p : code.Procedure) (i : ℕ) → called command ≡ calls.Procedure p → i < countOf image → spiOf image i ≡ spiNamed (valueOf command)
+      → Ready (procedureIs p) image last i (valueOf command)
+      → q ≡ replyAt 0 (procedureIs p) image last i (valueOf command)
+      → Where image last command q
+  nowhere : q .stores ≡ [] → set last (q .entry) (q .number) ≡ last → Where image last command q
+
+value-octets : (command : List ℕ) → Octets command → Octets (valueOf command)
+value-octets command spoken i = rw (getD-drop frontLength command i 0) (spoken (frontLength + i))
+
+pub place : (image last command : List ℕ) (room : ℕ) → Octets image → Octets command → length last ≡ 32 → Done image last command room
+    → Where image last command (commandReply image last command room)
+unfolding entryNamed
+place image last command room octets spoken thirtyTwo d = by-names (procedureIs (d .procedure) .names) refl
+  where
+    p : code.Procedure
+    p = d .procedure
+
+    by-names : (t : Bool) → procedureIs p .names ≡ t → Where image last command (commandReply image last command room)
+    by-names true n =
+        let f = spi-found image (spiNamed (valueOf command)) (d .entry) (rw n at (d .named)) in
+        at p (d .entry) (d .calls) (f .0) (f .1)
+        (record {
+          valid = d .valid;
+          octets = octets;
+          thirtyTwo = thirtyTwo;
+          agree = d .agree;
+          listed = f .0;
+          octetsIn = value-octets command spoken;
+          asked = d .under .asked;
+          allowed = d .under .allowed;
+        })
+        (d .reply)
+    by-names false n =
+        let s = quiet p n image (d .entry) (numberFor (procedureIs p) last (d .entry) (valueOf command)) (numberOf last (d .entry)) (valueOf command) in
+        rw (d .reply) (nowhere (s .0) (rw (s .1) (set-getD last (d .entry) 0)))

@@ -1,0 +1,60 @@
+-- What a command reports is small: its reply has at most 17 octets, and its stores are at most 16.
+-- Assumes nothing.
+use Prim.Native.Nat.{ℕ, _≤_}
+use mathlib.Core.Path.{_≡_}
+use mathlib.Core.List.{List, []}
+use native.Mathlib.Decide.{ℕ-discrete}
+use native.Mathlib.Omega.{arith}
+use lib.ListN.{length}
+use Rattle.octets.specs.Lists.{Octets}
+use Rattle.octets.specs.Numbers.{bytes}
+use Rattle.bodies.specs.Body.{stateOf}
+use Rattle.image.specs.Image.{bodyOf}
+use Rattle.association.specs.Numbers.{numberOf}
+use Rattle.judging.specs.Replies.{Reply}
+use Rattle.link.specs.Calls.{left}
+use Rattle.link.proofs.Leaving.{left-done, left-refused}
+use Rattle.link.proofs.Small.{Small, small-refused}
+use Rattle.procedures.specs.Form.{valueOf, spiNamed}
+use Rattle.procedures.specs.Procedures.{procedureIs}
+use Rattle.procedures.specs.declared.procedure.Procedure as code
+use Rattle.procedures.specs.declared.procedure.Procedure.the-variants as procedure
+use Rattle.commands.specs.Commanding.{commandReply, commanded}
+use Rattle.commands.proofs.Doing.{does}
+use Rattle.commands.proofs.Done.{Done, done, Where, at, nowhere, place}
+
+pub reply-short : (p : code.Procedure) (spi state last : ℕ) → length (procedureIs p .reply spi state last) ≤ 17
+unfolding bytes
+reply-short procedure.Start spi state last = omega arith
+reply-short procedure.Stop spi state last = omega arith
+reply-short procedure.Rekey spi state last = omega arith
+reply-short procedure.Expire spi state last = omega arith
+reply-short procedure.SetNumber spi state last = omega arith
+reply-short procedure.SetWindow spi state last = omega arith
+reply-short procedure.Status spi state last = omega arith
+reply-short procedure.ReadNumber spi state last = omega arith
+reply-short procedure.Ping spi state last = omega arith
+
+few : (image last command : List ℕ) (q : Reply) → Where image last command q → length (q .stores) ≤ 16
+few image last command q (at p i calls listed spi ready is) = rw is (does p image last i _ ready .few)
+few image last command q (nowhere none same) = rw none (omega arith)
+
+pub commanded-small : (image last command output : List ℕ) → Octets image → Octets command → length last ≡ 32
+    → Small (commanded image last command output)
+unfolding commanded
+commanded-small image last command output octets spoken thirtyTwo = by-answer (ℕ-discrete (q .answer) 0)
+  where
+    q : Reply
+    q = commandReply image last command (length output)
+
+    by-answer : Dec (q .answer ≡ 0) → Small (left q image last output)
+    by-answer (yes z) =
+        let d : Done image last command (length output) = done image last command (length output) z in
+        rw (left-done q image last output z)
+        (record {
+          short =
+              rw (d .reply)
+              (omega (arith, reply-short (d .procedure) (spiNamed (valueOf command)) (stateOf (bodyOf image (d .entry))) (numberOf last (d .entry))));
+          few = few image last command q (place image last command (length output) octets spoken thirtyTwo d);
+        })
+    by-answer (no z) = rw (left-refused q image last output z) (small-refused (q .answer) image last output)

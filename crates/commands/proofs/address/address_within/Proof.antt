@@ -1,0 +1,47 @@
+-- `address_within` is right because a command that calls no procedure is answered by 13, and one whose entry the table has not by 14.
+-- Assumes nothing.
+use mathlib.Core.Path.{refl, sym, ap, _∙_}
+use native.Mathlib.Omega.{arith}
+use Rattle.judging.specs.declared.answers.Answer.the-variants as answer
+use Rattle.judging.proofs.Admitting.{refuses}
+use Rattle.commands.proofs.Addressing.{by-13, by-14, addresses}
+use borrow.Author.Needs.{needs}
+use Rattle.commands.proofs.address.address_within.Statement.{statement}
+use Rattle.commands.proofs.address.address_within.Tie as tie
+
+abbrev start : tie.After-called-by → tie.Start
+start c = c .before .before .before
+
+returns : tie.Need-returns
+returns c =
+    let d = c .before .before in
+    let s = start d in
+    let g = s .args in
+    refuses answer.BadCommand _ 13 refl (omega arith)
+    (by-13 (g .image .now) (g .numbers .last) (g .command .now) (s .pre .0) (s .pre .1) (sym (d .called-by .ensures) ∙ c .enum-told .given .1))
+
+returns-2 : tie.Need-returns-2
+returns-2 c =
+    let named = c .before .before .before in
+    let hit = named .before .before in
+    let d = hit .before .before in
+    let s = start d in
+    let g = s .args in
+    addresses (g .image .now) (g .numbers .last) (g .command .now) (s .pre .0) (s .pre .1) _
+    (sym (d .called-by .ensures) ∙ hit .called .given .1) _ (sym (named .entry-named .ensures) ∙ c .before .found .given .1)
+
+returns-3 : tie.Need-returns-3
+returns-3 c =
+    let named = c .before .before in
+    let hit = named .before .before in
+    let d = hit .before .before in
+    let s = start d in
+    let g = s .args in
+    refuses answer.UnknownSpi _ 14 refl (omega arith)
+    (by-14 (g .image .now) (g .numbers .last) (g .command .now) (s .pre .0) (s .pre .1) _
+    (sym (d .called-by .ensures) ∙ hit .called .given .1) (sym (named .entry-named .ensures) ∙ c .enum-told2 .given .1))
+
+pub address-within-spec : {M : Type 1} → statement M
+address-within-spec =
+    tie.close
+    (tie.spec (λ c κs. search needs) (λ c. search needs) (λ c. search needs) (λ c κs. search needs) (λ c. search needs) (λ c. search needs) returns returns-2 returns-3)

@@ -1,0 +1,65 @@
+// The tests that come first of a command, 1, 2, 13 and 14 in the paper's order. Nothing is changed.
+use association::Found;
+use association::Numbers;
+use association::Standing;
+use association::find_spi;
+use association::test_standing;
+use judging::Answer;
+use octets::two_at;
+use procedures::Called;
+use procedures::FRONT;
+use procedures::Procedure;
+use procedures::called_by;
+ghost use mathlib.Core.Path.{_≡_};
+ghost use mathlib.Core.Bool.{true};
+ghost use Rattle.image.specs.Image.{validImage};
+ghost use Rattle.association.specs.Numbers.{agrees};
+ghost use Rattle.procedures.specs.Form.{valueOf};
+ghost use Rattle.procedures.specs.Procedures.{procedureIs};
+ghost use Rattle.commands.specs.Commanding.{entryNamed};
+ghost use Rattle.commands.specs.Steps.{Addressed};
+
+// The procedure that a command calls and the entry that it names, or the first refusal.
+pub enum Address {
+    To(Procedure, u8),
+    Refused(Answer),
+}
+
+// The entry that a command names. One that names none gets entry 0, which it neither reads nor changes.
+fn entry_named(image: &[u8], procedure: Procedure, command: &[u8]) -> Found
+    ensures { λ r. ⌜ r ≡ entryNamed (procedureIs procedure) (now (image .entry)) (valueOf (now (command .entry))) ⌝ }
+{
+    if procedure.names() {
+        return find_spi(image, two_at(command, FRONT));
+    }
+    Found::At(0)
+}
+
+// Past 1 and 2: 13 and 14.
+fn address_within(image: &[u8], numbers: Numbers, command: &[u8]) -> Address
+    requires { ⌜ (validImage (now image) ≡ true) × (agrees (now image) (numbers .last) ≡ true) ⌝ }
+    ensures { λ r. ⌜ Addressed r (now (image .entry)) (numbers .last) (now (command .entry)) ⌝ }
+{
+    let called = called_by(command);
+    match called {
+        Called::Nothing => Address::Refused(Answer::BadCommand),
+        Called::Procedure(procedure) => {
+            let found = entry_named(image, procedure, command);
+            match found {
+                Found::At(entry) => Address::To(procedure, entry),
+                Found::Nothing => Address::Refused(Answer::UnknownSpi),
+            }
+        }
+    }
+}
+
+pub fn address_of(image: &[u8], numbers: Numbers, command: &[u8]) -> Address
+    ensures { λ r. ⌜ Addressed r (now (image .entry)) (numbers .last) (now (command .entry)) ⌝ }
+{
+    let standing = test_standing(image, numbers);
+    match standing {
+        Standing::BadImage => Address::Refused(Answer::BadImage),
+        Standing::BadMarks => Address::Refused(Answer::BadMarks),
+        Standing::Good => address_within(image, numbers, command),
+    }
+}

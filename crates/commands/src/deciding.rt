@@ -1,0 +1,53 @@
+// A command under the entry that it names, 15, 16 and 6 in the paper's order. Nothing is changed.
+use bodies::state_of;
+use image::body_at;
+use image::version_of;
+use judging::Answer;
+use judging::Grant;
+use judging::Verdict;
+use procedures::Procedure;
+use procedures::allowed;
+use procedures::new_number;
+use procedures::plan_of;
+use procedures::reply_size;
+ghost use mathlib.Core.Path.{_≡_};
+ghost use Rattle.bodies.specs.Body.{stateOf};
+ghost use Rattle.image.specs.Image.{bodyOf};
+ghost use Rattle.judging.specs.Verdicts.{Judged};
+ghost use Rattle.commands.specs.Steps.{procedureJudged};
+
+// The state of an entry.
+pub(crate) fn state_at(image: &[u8], entry: u8) -> u8
+    ensures { λ r. ⌜ r ≡ stateOf (bodyOf (now (image .entry)) entry) ⌝ }
+{
+    state_of(image, version_of(image), body_at(image, entry))
+}
+
+pub fn decide(
+    image: &[u8],
+    entry: u8,
+    last: u32,
+    procedure: Procedure,
+    value: &[u8],
+    room: usize,
+) -> Verdict
+    ensures { λ r. ⌜ Judged r (procedureJudged procedure (now (image .entry)) entry last (now (value .entry)) room) ⌝ }
+{
+    if !procedure.asks(state_at(image, entry)) {
+        return Verdict::Refused(Answer::WrongState);
+    }
+    if !allowed(procedure, image, entry, last, value) {
+        return Verdict::Refused(Answer::BadValue);
+    }
+    let size = reply_size(procedure);
+    if room < size {
+        return Verdict::Refused(Answer::NoRoom);
+    }
+    let number = new_number(procedure, last, value);
+    Verdict::Granted(Grant {
+        entry,
+        number,
+        plan: plan_of(procedure, image, entry, number, value),
+        size,
+    })
+}

@@ -1,0 +1,54 @@
+-- `write_reply` is right because each arm puts the reply of its procedure, and one without a reply puts nothing.
+-- Assumes nothing.
+use Prim.Native.Nat.{ℕ}
+use mathlib.Core.List.{List}
+use mathlib.Core.Path.{ap, _∙_}
+use Rattle.octets.specs.Output.{fronted}
+use Rattle.procedures.proofs.ReplyOctets.{fronted-none}
+use borrow.Author.Needs.{needs}
+use Rattle.procedures.proofs.replies.write_reply.Statement.{statement}
+use Rattle.procedures.proofs.replies.write_reply.Tie as tie
+
+returns : tie.Need-returns
+returns c = rw (c .enum-told .given .1) (fronted-none _)
+
+returns-2 : tie.Need-returns-2
+returns-2 c = rw (c .enum-told2 .given .1) (fronted-none _)
+
+returns-3 : tie.Need-returns-3
+returns-3 c = rw (c .enum-told3 .given .1) (fronted-none _)
+
+returns-4 : tie.Need-returns-4
+returns-4 c = rw (c .enum-told4 .given .1) (fronted-none _)
+
+returns-5 : tie.Need-returns-5
+returns-5 c = rw (c .enum-told5 .given .1) (fronted-none _)
+
+returns-6 : tie.Need-returns-6
+returns-6 c = rw (c .enum-told6 .given .1) (fronted-none _)
+
+returns-7 : tie.Need-returns-7
+returns-7 c =
+    let put = c .before .before in
+    let reply = put .before .before .before in
+    let g = reply .before .before .before .before .args in
+    rw (reply .before .enum-told7 .given .1) (put .put .ensures ∙ ap (λ (t : List ℕ). fronted t (g .output .now)) (reply .status-reply .ensures))
+
+returns-8 : tie.Need-returns-8
+returns-8 c =
+    let put = c .before .before in
+    let reply = put .before .before .before in
+    let g = reply .before .before .before .before .args in
+    rw (reply .before .enum-told8 .given .1) (put .put2 .ensures ∙ ap (λ (t : List ℕ). fronted t (g .output .now)) (reply .number-reply .ensures))
+
+returns-9 : tie.Need-returns-9
+returns-9 c =
+    let put = c .before .before in
+    let reply = put .before .before .before in
+    let g = reply .before .before .before .before .args in
+    rw (reply .before .enum-told9 .given .1) (put .put3 .ensures ∙ ap (λ (t : List ℕ). fronted t (g .output .now)) (reply .ping-reply .ensures))
+
+pub write-reply-spec : {M : Type 1} → statement M
+write-reply-spec =
+    tie.close
+    (tie.spec (λ c. search needs) (λ c. search needs) (λ c. search needs) (λ c. search needs) (λ c. search needs) (λ c. search needs) (λ c. search needs) (λ c κs. search needs) (λ c. search needs) (λ c κs. search needs) (λ c. search needs) (λ c κs. search needs) (λ c. search needs) (λ c κs. search needs) (λ c. search needs) (λ c κs. search needs) (λ c. search needs) (λ c κs. search needs) returns returns-2 returns-3 returns-4 returns-5 returns-6 (λ c. search needs) returns-7 (λ c. search needs) returns-8 (λ c. search needs) returns-9)

@@ -1,0 +1,4 @@
+pub mod Channels
+pub mod Form
+pub mod Procedures
+pub mod Steps

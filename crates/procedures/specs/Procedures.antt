@@ -1,0 +1,225 @@
+-- Document 02, request 5: the nine procedures that a command may call, a record each. Everything that the paper says of one stands in its
+-- record: its tag and the length of its value are refusal 13, the states in which it may come 15, the values that it allows 16.
+-- Assumes nothing.
+use Prim.Native.Nat.{ℕ, _+_, _-_, _%_}
+use mathlib.Core.Bool.{Bool, true, false, cond, not, _&&_}
+use mathlib.Core.List.{List, [], _∷_, _++_}
+use lib.Dec.{eqb, leb}
+use lib.ListN.{length}
+use Rattle.octets.specs.Lists.{octet}
+use Rattle.octets.specs.Numbers.{bytes}
+use Rattle.marks.specs.declared.plans.Store.{Store}
+use Rattle.bodies.specs.Body.{windowOf, unkeyed, keyed, operational, windowFits}
+use Rattle.bodies.specs.Layout.{statePlace, windowPlace}
+use Rattle.image.specs.Image.{bodyAt}
+use Rattle.association.specs.Numbers.{accepts}
+use Rattle.association.specs.Stores.{storesFor}
+use Rattle.procedures.specs.Channels.{channelsRight}
+use Rattle.procedures.specs.Form.{tagOf, valueOf, measured, spiLength, windowLength, windowAsked, keyIdLength, keyAsked, channelLength}
+use Rattle.procedures.specs.Form.{numberLength, numberAsked, numberBehindKey, replyTo}
+use Rattle.procedures.specs.declared.procedure.Called.{Called}
+use Rattle.procedures.specs.declared.procedure.Called.the-variants as calls
+use Rattle.procedures.specs.declared.procedure.Procedure as code
+use Rattle.procedures.specs.declared.procedure.Procedure.the-variants as procedure
+
+pub record Procedure : Type 0 where
+  pub tag : ℕ
+  -- the lengths that the value may have
+  pub sized : ℕ → Bool
+  -- whether it names an association, by the SPI that its value starts with
+  pub names : Bool
+  -- the states in which it may come
+  pub asks : ℕ → Bool
+  -- from the image's version, the body, the last number and the value, whether it may be carried out
+  pub allows : ℕ → List ℕ → ℕ → List ℕ → Bool
+  -- from the last number and the value, the managed number once all stores are made
+  pub number : ℕ → List ℕ → ℕ
+  -- from the image, the entry, that number and the value, the octet stores in their order
+  pub stores : List ℕ → ℕ → ℕ → List ℕ → List Store
+  -- from the SPI, the state and the last number, every octet of the reply; none for no reply
+  pub reply : ℕ → ℕ → ℕ → List ℕ
+
+-- ---- what several have in common
+
+abbrev exactly : ℕ → ℕ → Bool
+exactly size n = eqb n size
+
+abbrev anyState : ℕ → Bool
+anyState state = true
+
+abbrev anyValue : ℕ → List ℕ → ℕ → List ℕ → Bool
+anyValue version body last value = true
+
+abbrev asBefore : ℕ → List ℕ → ℕ
+asBefore last value = last
+
+abbrev noStores : List ℕ → ℕ → ℕ → List ℕ → List Store
+noStores image e n value = []
+
+abbrev noReply : ℕ → ℕ → ℕ → List ℕ
+noReply spi state last = []
+
+-- one octet of the body of entry e
+abbrev pub octetIn : List ℕ → ℕ → ℕ → ℕ → Store
+octetIn image e place value = record { at = bodyAt image e + place; value = value }
+
+-- from one state to another: one store
+abbrev moving : ℕ → (ℕ → Bool) → ℕ → ℕ → (ℕ → List ℕ → ℕ → List ℕ → Bool) → Procedure
+moving tag sized from to allows =
+    record {
+      tag = tag;
+      sized = sized;
+      names = true;
+      asks = eqb from;
+      allows = allows;
+      number = asBefore;
+      stores = λ image e n value. octetIn image e statePlace to ∷ [];
+      reply = noReply;
+    }
+
+-- a question: nothing is stored
+abbrev asking : ℕ → ℕ → Bool → (ℕ → ℕ → ℕ → List ℕ) → Procedure
+asking tag size names reply =
+    record {
+      tag = tag;
+      sized = exactly size;
+      names = names;
+      asks = anyState;
+      allows = anyValue;
+      number = asBefore;
+      stores = noStores;
+      reply = reply;
+    }
+
+-- ---- the states: unkeyed, keyed, operational
+
+-- SPI, then one or more channels. Each is one of the body's, and the window is one with which an association may serve
+abbrev pub start : Procedure
+start =
+    moving 0x1B (λ n. leb (spiLength + channelLength) n && eqb ((n - spiLength) % channelLength) 0) keyed operational
+    (λ version body last value. channelsRight version body value && windowFits (windowOf body))
+
+abbrev pub stop : Procedure
+stop = moving 0x1E (exactly spiLength) operational keyed anyValue
+
+-- SPI, key ID, number: it keeps key and mark, so both are 0. The state is what it stores last
+abbrev pub rekey : Procedure
+rekey =
+    moving 0x16 (exactly (spiLength + keyIdLength + numberLength)) unkeyed keyed
+    (λ version body last value. eqb (keyAsked value) 0 && eqb (numberBehindKey value) 0)
+
+abbrev pub expire : Procedure
+expire = moving 0x19 (exactly spiLength) keyed unkeyed anyValue
+
+-- ---- the number and the window
+
+-- the most by which a number may be set higher
+abbrev pub mostRise : ℕ
+mostRise = 1024
+
+-- SPI, number: it only rises, with the marks one at a time first
+abbrev pub setNumber : Procedure
+setNumber =
+    record {
+      tag = 0x1A;
+      sized = exactly (spiLength + numberLength);
+      names = true;
+      asks = anyState;
+      allows = λ version body last value. accepts last mostRise (numberAsked value);
+      number = λ last value. numberAsked value;
+      stores = λ image e n value. storesFor image e n;
+      reply = noReply;
+    }
+
+-- SPI, window: its high octet, then its low one. A cut between the two leaves any window, and the body, which is not operational, may have
+-- any: the image stays valid
+abbrev pub setWindow : Procedure
+setWindow =
+    record {
+      tag = 0x15;
+      sized = exactly (spiLength + windowLength);
+      names = true;
+      asks = λ state. not (eqb state operational);
+      allows = λ version body last value. windowFits (windowAsked value);
+      number = asBefore;
+      stores = λ image e n value.
+          octetIn image e windowPlace (octet value spiLength) ∷ octetIn image e (windowPlace + 1) (octet value (spiLength + 1)) ∷ [];
+      reply = noReply;
+    }
+
+-- ---- questions
+
+-- SPI; the reply is SPI and state
+abbrev pub status : Procedure
+status = asking 0x1F spiLength true (λ spi state last. replyTo 0x1F (bytes spiLength spi ++ (state ∷ [])))
+
+-- SPI; the reply is SPI and number
+abbrev pub readNumber : Procedure
+readNumber = asking 0x10 spiLength true (λ spi state last. replyTo 0x10 (bytes spiLength spi ++ bytes numberLength last))
+
+-- nothing; the reply is empty
+abbrev pub ping : Procedure
+ping = asking 0x31 0 false (λ spi state last. replyTo 0x31 [])
+
+-- ---- no procedure: no length is right
+
+abbrev pub noProcedure : Procedure
+noProcedure =
+    record {
+      tag = 0;
+      sized = λ n. false;
+      names = false;
+      asks = anyState;
+      allows = anyValue;
+      number = asBefore;
+      stores = noStores;
+      reply = noReply;
+    }
+
+-- ---- the procedure that a command calls
+
+-- what the paper says of each procedure of the code
+abbrev pub procedureIs : code.Procedure → Procedure
+procedureIs procedure.Start = start
+procedureIs procedure.Stop = stop
+procedureIs procedure.Rekey = rekey
+procedureIs procedure.Expire = expire
+procedureIs procedure.SetNumber = setNumber
+procedureIs procedure.SetWindow = setWindow
+procedureIs procedure.Status = status
+procedureIs procedure.ReadNumber = readNumber
+procedureIs procedure.Ping = ping
+
+abbrev pub procedures : List code.Procedure
+procedures =
+    procedure.Start
+    ∷ procedure.Stop
+    ∷ procedure.Rekey
+    ∷ procedure.Expire
+    ∷ procedure.SetNumber
+    ∷ procedure.SetWindow
+    ∷ procedure.Status
+    ∷ procedure.ReadNumber
+    ∷ procedure.Ping
+    ∷ []
+
+-- the one of a list that has a tag
+unfoldable pub withTag : ℕ → List code.Procedure → Called
+withTag tag [] = calls.Nothing
+withTag tag (p ∷ ps) = cond (eqb tag (procedureIs p .tag)) (calls.Procedure p) (withTag tag ps)
+
+abbrev pub procedureBehind : Called → Procedure
+procedureBehind (calls.Procedure p) = procedureIs p
+procedureBehind calls.Nothing = noProcedure
+
+-- refusal 13: by its tag, where its length is right; else it calls none
+abbrev pub sizedFor : Called → ℕ → Bool
+sizedFor called n = procedureBehind called .sized n
+
+unfoldable pub called : List ℕ → Called
+called command =
+    let x = withTag (tagOf command) procedures in
+    cond (measured command && sizedFor x (length (valueOf command))) x calls.Nothing
+
+abbrev pub procedureOf : List ℕ → Procedure
+procedureOf command = procedureBehind (called command)

@@ -1,0 +1,63 @@
+// What a command stores, before any of it is stored.
+use crate::procedure::Procedure;
+use crate::procedure::SPI;
+use association::plan_for;
+use bodies::KEYED;
+use bodies::OPERATIONAL;
+use bodies::STATE;
+use bodies::UNKEYED;
+use bodies::WINDOW;
+use image::body_at;
+use marks::Plan;
+use marks::Store;
+use octets::octet_at;
+ghost use mathlib.Core.Path.{_≡_};
+ghost use mathlib.Core.List.{[], _∷_};
+ghost use Prim.Native.Nat.{_<_};
+ghost use Rattle.marks.specs.Stores.{storesOf};
+ghost use Rattle.bodies.specs.Layout.{statePlace, fieldsEnd};
+ghost use Rattle.procedures.specs.Procedures.{setWindow, octetIn, procedureIs};
+
+// One octet of the body of an entry.
+fn octet_in(image: &[u8], entry: u8, place: usize, value: u8) -> Store
+    requires { ⌜ place < fieldsEnd ⌝ }
+    ensures { λ r. ⌜ r ≡ octetIn (now (image .entry)) entry place value ⌝ }
+{
+    Store {
+        at: body_at(image, entry) as usize + place,
+        value,
+    }
+}
+
+fn move_to(image: &[u8], entry: u8, state: u8) -> Plan
+    ensures { λ r. ⌜ storesOf r ≡ octetIn (now (image .entry)) entry statePlace state ∷ [] ⌝ }
+{
+    Plan::One(octet_in(image, entry, STATE, state))
+}
+
+// The high octet of the window, then its low one.
+fn change_window(image: &[u8], entry: u8, value: &[u8]) -> Plan
+    ensures { λ r. ⌜ storesOf r ≡ setWindow .stores (now (image .entry)) entry 0 (now (value .entry)) ⌝ }
+{
+    Plan::Two(
+        octet_in(image, entry, WINDOW, octet_at(value, SPI)),
+        octet_in(image, entry, WINDOW + 1, octet_at(value, SPI + 1)),
+    )
+}
+
+// The stores of a procedure that gives an entry that number.
+pub fn plan_of(procedure: Procedure, image: &[u8], entry: u8, number: u32, value: &[u8]) -> Plan
+    ensures { λ r. ⌜ storesOf r ≡ procedureIs procedure .stores (now (image .entry)) entry number (now (value .entry)) ⌝ }
+{
+    match procedure {
+        Procedure::Start => move_to(image, entry, OPERATIONAL),
+        Procedure::Stop => move_to(image, entry, KEYED),
+        Procedure::Rekey => move_to(image, entry, KEYED),
+        Procedure::Expire => move_to(image, entry, UNKEYED),
+        Procedure::SetNumber => plan_for(image, entry, number),
+        Procedure::SetWindow => change_window(image, entry, value),
+        Procedure::Status => Plan::Nothing,
+        Procedure::ReadNumber => Plan::Nothing,
+        Procedure::Ping => Plan::Nothing,
+    }
+}

@@ -1,0 +1,90 @@
+// The value of a command: whether it may be carried out, and the number that the association then has.
+use crate::channels::channels_right;
+use crate::procedure::KEY_ID;
+use crate::procedure::Procedure;
+use crate::procedure::SPI;
+use bodies::window_fits;
+use bodies::window_of;
+use image::body_at;
+use image::version_of;
+use judging::accepts;
+use octets::four_at;
+use octets::two_at;
+use services::number_in;
+ghost use mathlib.Core.Path.{_≡_};
+ghost use mathlib.Core.Bool.{_&&_};
+ghost use mathlib.Core.List.{[]};
+ghost use lib.Dec.{eqb};
+ghost use Rattle.image.specs.Image.{versionOf, bodyOf};
+ghost use Rattle.procedures.specs.Form.{numberBehindKey};
+ghost use Rattle.procedures.specs.Procedures.{start, rekey, setNumber, procedureIs};
+ghost use Rattle.procedures.specs.Steps.{Renumbered};
+
+// The service whose security header has its number in twelve octets behind the SPI, as a set number has it.
+const ENCRYPTING: u8 = 2;
+
+// The most by which a number may be set higher.
+const MOST_RISE: u16 = 1024;
+
+// A start: each channel is the body's, and the window is one with which it may serve.
+fn start_allowed(image: &[u8], entry: u8, value: &[u8]) -> bool
+    ensures { λ r. ⌜ r ≡ start .allows (versionOf (now (image .entry))) (bodyOf (now (image .entry)) entry) 0 (now (value .entry)) ⌝ }
+{
+    let version = version_of(image);
+    let at = body_at(image, entry);
+    channels_right(image, version, at, value) & window_fits(window_of(image, version, at))
+}
+
+// The twelve octets of a number behind a key's ID are all 0.
+fn number_is_0(value: &[u8]) -> bool
+    ensures { λ r. ⌜ r ≡ eqb (numberBehindKey (now (value .entry))) 0 ⌝ }
+{
+    let at = SPI + KEY_ID;
+    (four_at(value, at) == 0) & (four_at(value, at + 4) == 0) & (four_at(value, at + 8) == 0)
+}
+
+// A set number: above the last, by no more than a set number may rise, and not above the greatest.
+fn rise_allowed(last: u32, value: &[u8]) -> bool
+    ensures { λ r. ⌜ r ≡ setNumber .allows 0 [] last (now (value .entry)) ⌝ }
+{
+    accepts(last, MOST_RISE, number_in(ENCRYPTING, value))
+}
+
+pub fn allowed(procedure: Procedure, image: &[u8], entry: u8, last: u32, value: &[u8]) -> bool
+    ensures { λ r. ⌜ r ≡ procedureIs procedure .allows (versionOf (now (image .entry))) (bodyOf (now (image .entry)) entry) last (now (value .entry)) ⌝ }
+{
+    match procedure {
+        Procedure::Start => start_allowed(image, entry, value),
+        Procedure::Stop => true,
+        Procedure::Rekey => (two_at(value, SPI) == 0) & number_is_0(value),
+        Procedure::Expire => true,
+        Procedure::SetNumber => rise_allowed(last, value),
+        Procedure::SetWindow => window_fits(two_at(value, SPI)),
+        Procedure::Status => true,
+        Procedure::ReadNumber => true,
+        Procedure::Ping => true,
+    }
+}
+
+// A number that is allowed has no multiple of 2^32 in it.
+fn number_asked(last: u32, value: &[u8]) -> u32
+    ensures { λ r. ⌜ Renumbered setNumber last (now (value .entry)) r ⌝ }
+{
+    number_in(ENCRYPTING, value).number
+}
+
+pub fn new_number(procedure: Procedure, last: u32, value: &[u8]) -> u32
+    ensures { λ r. ⌜ Renumbered (procedureIs procedure) last (now (value .entry)) r ⌝ }
+{
+    match procedure {
+        Procedure::Start => last,
+        Procedure::Stop => last,
+        Procedure::Rekey => last,
+        Procedure::Expire => last,
+        Procedure::SetNumber => number_asked(last, value),
+        Procedure::SetWindow => last,
+        Procedure::Status => last,
+        Procedure::ReadNumber => last,
+        Procedure::Ping => last,
+    }
+}

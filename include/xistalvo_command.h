@@ -1,0 +1,138 @@
+/* Lays out management commands of the link security module, and reads the replies, in buffers of the caller's.
+ *
+ * Each function that lays out gives the octets of the command, tag and length counted, or 0 where the buffer is shorter, and then writes nothing.
+ * What it lays out has the right form: no answer to it is 13. Whether the association and its values allow it is the module's to say. */
+#ifndef XISTALVO_COMMAND_H
+#define XISTALVO_COMMAND_H
+
+#include "xistalvo.h"
+
+#ifdef __cplusplus
+extern "C" {
+#endif
+
+/* The most channels that one start can name: its length field has 2 octets. */
+#define XISTALVO_MOST_CHANNELS 16383
+
+/* The name of a channel in a start: the channels of a set have one each. MAP counts for TC with segment header alone. */
+static inline uint32_t xistalvo_channel_name(uint8_t kind, uint16_t spacecraft, uint8_t channel, uint8_t map)
+{
+    switch (kind) {
+    case XISTALVO_TC_SEGMENT: return ((uint32_t)spacecraft << 6 | channel) << 6 | map;
+    case XISTALVO_TM: return (uint32_t)spacecraft << 3 | channel;
+    case XISTALVO_AOS: return UINT32_C(1) << 14 | (uint32_t)spacecraft << 6 | channel;
+    default: return (uint32_t)spacecraft << 6 | channel;
+    }
+}
+
+/* Writes a number into so many octets, the most significant first. */
+static inline void xistalvo_put_number(uint8_t *place, size_t octets, uint32_t number)
+{
+    while (octets != 0) {
+        octets--;
+        place[octets] = (uint8_t)(number & 0xFFu);
+        number >>= 8;
+    }
+}
+
+/* Tag and length, and for all but ping the SPI; the rest of the value is 0. */
+static inline size_t xistalvo_begin_command(uint8_t tag, uint16_t spi, uint8_t *command, size_t length, size_t room)
+{
+    size_t i;
+    if (room < length) {
+        return 0;
+    }
+    for (i = 0; i < length; i++) {
+        command[i] = 0;
+    }
+    command[0] = tag;
+    xistalvo_put_number(command + 1, 2, (uint32_t)(length - 3));
+    if (length > 3) {
+        xistalvo_put_number(command + 3, 2, spi);
+    }
+    return length;
+}
+
+/* Stop, expire, status or read number: XISTALVO_SPI_ALONE_LENGTH octets. */
+static inline size_t xistalvo_make_spi_alone(uint8_t tag, uint16_t spi, uint8_t *command, size_t room)
+{
+    return xistalvo_begin_command(tag, spi, command, XISTALVO_SPI_ALONE_LENGTH, room);
+}
+
+/* Start, naming these channels: XISTALVO_START_LENGTH(count) octets. A start that names none, or too many, has no form: 0. */
+static inline size_t xistalvo_make_start(uint16_t spi, const uint32_t *names, size_t count, uint8_t *command, size_t room)
+{
+    size_t length, i;
+    if (count == 0 || count > XISTALVO_MOST_CHANNELS) {
+        return 0;
+    }
+    length = xistalvo_begin_command(XISTALVO_TAG_START, spi, command, XISTALVO_START_LENGTH(count), room);
+    for (i = 0; length != 0 && i < count; i++) {
+        xistalvo_put_number(command + XISTALVO_START_LENGTH(i), 4, names[i]);
+    }
+    return length;
+}
+
+/* Rekey, with key ID and number 0: XISTALVO_REKEY_LENGTH octets. */
+static inline size_t xistalvo_make_rekey(uint16_t spi, uint8_t *command, size_t room)
+{
+    return xistalvo_begin_command(XISTALVO_TAG_REKEY, spi, command, XISTALVO_REKEY_LENGTH, room);
+}
+
+/* Set number: XISTALVO_SET_NUMBER_LENGTH octets. */
+static inline size_t xistalvo_make_set_number(uint16_t spi, uint32_t number, uint8_t *command, size_t room)
+{
+    size_t length = xistalvo_begin_command(XISTALVO_TAG_SET_NUMBER, spi, command, XISTALVO_SET_NUMBER_LENGTH, room);
+    if (length != 0) {
+        xistalvo_put_number(command + 5, 12, number);
+    }
+    return length;
+}
+
+/* Set window: XISTALVO_SET_WINDOW_LENGTH octets. */
+static inline size_t xistalvo_make_set_window(uint16_t spi, uint16_t window, uint8_t *command, size_t room)
+{
+    size_t length = xistalvo_begin_command(XISTALVO_TAG_SET_WINDOW, spi, command, XISTALVO_SET_WINDOW_LENGTH, room);
+    if (length != 0) {
+        xistalvo_put_number(command + 5, 2, window);
+    }
+    return length;
+}
+
+/* Ping: XISTALVO_PING_LENGTH octets. */
+static inline size_t xistalvo_make_ping(uint8_t *command, size_t room)
+{
+    return xistalvo_begin_command(XISTALVO_TAG_PING, 0, command, XISTALVO_PING_LENGTH, room);
+}
+
+/* Whether so many octets are a reply to a command with this tag, by their tag and length. */
+static inline int xistalvo_is_reply(uint8_t tag, const uint8_t *reply, size_t length)
+{
+    size_t whole = tag == XISTALVO_TAG_STATUS        ? XISTALVO_STATUS_REPLY_LENGTH
+                 : tag == XISTALVO_TAG_READ_NUMBER ? XISTALVO_READ_NUMBER_REPLY_LENGTH
+                                                   : XISTALVO_PING_REPLY_LENGTH;
+    int has_reply = tag == XISTALVO_TAG_STATUS || tag == XISTALVO_TAG_READ_NUMBER || tag == XISTALVO_TAG_PING;
+    return has_reply && length == whole && reply[0] == XISTALVO_TAG_OF_REPLY(tag) && reply[1] == 0 && reply[2] == whole - 3;
+}
+
+/* The SPI of a reply to status or read number, the state in one to status, and the number in one to read number. */
+static inline uint16_t xistalvo_spi_in(const uint8_t *reply)
+{
+    return (uint16_t)(reply[3] << 8 | reply[4]);
+}
+
+static inline uint8_t xistalvo_state_in(const uint8_t *reply)
+{
+    return reply[5];
+}
+
+static inline uint32_t xistalvo_number_in(const uint8_t *reply)
+{
+    return (uint32_t)reply[13] << 24 | (uint32_t)reply[14] << 16 | (uint32_t)reply[15] << 8 | reply[16];
+}
+
+#ifdef __cplusplus
+}
+#endif
+
+#endif

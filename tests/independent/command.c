@@ -1,0 +1,293 @@
+/* Document 02, request 5: management commands. */
+#include "reading.h"
+
+#include <string.h>
+
+enum { TAG_LENGTH = 1, LENGTH_LENGTH = 2, FORM_LENGTH = TAG_LENGTH + LENGTH_LENGTH };
+enum { SPI_LENGTH = 2, ID_LENGTH = 2, WINDOW_LENGTH = 2, NAME_LENGTH = 4 };
+enum { UNKEYED = 0, KEYED = 1, OPERATIONAL = 2 };
+enum { AT_STATE = 3, AT_WINDOW = 8 }; /* of a body */
+enum { LEAST_WINDOW = 1, MOST_WINDOW = 1024, MOST_STEP = 1024 };
+
+static const uint64_t GREATEST_NUMBER = 4294967295u;
+
+/* What is known of each command before an image is: its tag, as the request writes it; the value's octets, where start has one name or more;
+ * whether it has a reply, and of how many octets of value. */
+enum what { START, STOP, REKEY, EXPIRE, SET_NUMBER, SET_WINDOW, STATUS, READ_NUMBER, PING, COMMANDS };
+
+static const struct {
+    const char *tag;
+    size_t value_length;
+    bool has_reply;
+    size_t reply_length;
+} known[COMMANDS] = {
+    [START] = {"00011011", SPI_LENGTH + NAME_LENGTH, false, 0},
+    [STOP] = {"00011110", SPI_LENGTH, false, 0},
+    [REKEY] = {"00010110", SPI_LENGTH + ID_LENGTH + SEQUENCE_LENGTH, false, 0},
+    [EXPIRE] = {"00011001", SPI_LENGTH, false, 0},
+    [SET_NUMBER] = {"00011010", SPI_LENGTH + SEQUENCE_LENGTH, false, 0},
+    [SET_WINDOW] = {"00010101", SPI_LENGTH + WINDOW_LENGTH, false, 0},
+    [STATUS] = {"00011111", SPI_LENGTH, true, SPI_LENGTH + 1},
+    [READ_NUMBER] = {"00010000", SPI_LENGTH, true, SPI_LENGTH + SEQUENCE_LENGTH},
+    [PING] = {"00110001", 0, true, 0},
+};
+
+/* A command taken apart, and the entry that it is about. */
+struct command {
+    enum what what;
+    const uint8_t *value;
+    size_t value_length;
+    struct table table;
+    size_t entry;
+};
+
+static unsigned number_of_digits(const char *digits)
+{
+    unsigned number = 0;
+    for (; *digits != '\0'; digits++) {
+        number = number * 2 + (*digits == '1');
+    }
+    return number;
+}
+
+static uint64_t number_of_octets(const uint8_t *octets, size_t count)
+{
+    uint64_t number = 0;
+    for (size_t i = 0; i < count; i++) {
+        number = number * 256 + octets[i];
+    }
+    return number;
+}
+
+/* ---- 13 ---- */
+
+static bool find_tag(unsigned tag, enum what *what)
+{
+    for (unsigned i = 0; i < COMMANDS; i++) {
+        if (number_of_digits(known[i].tag) == tag) {
+            *what = (enum what)i;
+            return true;
+        }
+    }
+    return false;
+}
+
+/* 'one tag octet each'; a length of 2 octets that counts the octets behind it; and the value, whose length is the command's own. */
+static bool has_form(const struct call *call, struct command *command)
+{
+    if (call->frame_length < FORM_LENGTH || !find_tag(call->frame[0], &command->what)) {
+        return false;
+    }
+    command->value = call->frame + FORM_LENGTH;
+    command->value_length = call->frame_length - FORM_LENGTH;
+    if (number_of_octets(call->frame + TAG_LENGTH, LENGTH_LENGTH) != command->value_length) {
+        return false;
+    }
+    size_t least = known[command->what].value_length;
+    if (command->what == START) {
+        return command->value_length >= least && (command->value_length - least) % NAME_LENGTH == 0;
+    }
+    return command->value_length == least;
+}
+
+/* ---- 14 ---- */
+
+/* 'SPI not in the table': whatever direction, kind and state the entry has. */
+static bool find_spi(struct command *command)
+{
+    uint64_t spi = number_of_octets(command->value, SPI_LENGTH);
+    for (size_t i = 0; i < command->table.count; i++) {
+        if (command->table.entries[i].spi == spi) {
+            command->entry = i;
+            return true;
+        }
+    }
+    return false;
+}
+
+/* ---- 15 ---- */
+
+/* 'Start goes from keyed to operational, stop back, expire to unkeyed, rekey from unkeyed to keyed'; expire from keyed alone. */
+static bool is_in_state(const struct command *command)
+{
+    unsigned state = command->table.entries[command->entry].state;
+    switch (command->what) {
+    case START:
+    case EXPIRE:
+        return state == KEYED;
+    case STOP:
+        return state == OPERATIONAL;
+    case REKEY:
+        return state == UNKEYED;
+    case SET_WINDOW: /* 'A window change needs an association not operational' */
+        return state != OPERATIONAL;
+    default:
+        return true;
+    }
+}
+
+/* ---- 16 ---- */
+
+/* The identifiers one behind the other, version of two bits first: 'version + spacecraft + channel', for kind 2 '+ MAP'. */
+uint32_t name_of_channel(const struct association *association, unsigned channel)
+{
+    const struct {
+        unsigned value, width;
+    } parts[] = {
+        {association->kind == 4 ? 1 : 0, 2},
+        {association->spacecraft, association->kind == 4 ? 8 : 10},
+        {channel, association->kind == 3 ? 3 : 6},
+        {association->map, association->kind == 2 ? 6 : 0},
+    };
+    uint32_t name = 0;
+    for (size_t i = 0; i < sizeof parts / sizeof parts[0]; i++) {
+        name = (name << parts[i].width) + parts[i].value;
+    }
+    return name;
+}
+
+/* 'a channel it names must be one of the body's' */
+static bool is_own_channel(const struct association *association, uint64_t name)
+{
+    for (unsigned channel = 0; channel < 64; channel++) {
+        if (serves_channel(association, channel) && name == name_of_channel(association, channel)) {
+            return true;
+        }
+    }
+    return false;
+}
+
+static bool channels_are_own(const struct command *command)
+{
+    for (size_t at = SPI_LENGTH; at < command->value_length; at += NAME_LENGTH) {
+        if (!is_own_channel(&command->table.entries[command->entry], number_of_octets(command->value + at, NAME_LENGTH))) {
+            return false;
+        }
+    }
+    return true;
+}
+
+static bool window_is_allowed(uint64_t window)
+{
+    return LEAST_WINDOW <= window && window <= MOST_WINDOW;
+}
+
+/* 'Set number only raises, by 1 to 1,024, never past 4,294,967,295': over whole numbers, of which 12 octets can hold greater ones. */
+static bool number_is_allowed(const uint8_t sequence[SEQUENCE_LENGTH], uint32_t last)
+{
+    enum { HIGH = SEQUENCE_LENGTH - 8 };
+    uint64_t low = number_of_octets(sequence + HIGH, 8);
+    return number_of_octets(sequence, HIGH) == 0 && low <= GREATEST_NUMBER && last < low && low - last <= MOST_STEP;
+}
+
+static bool value_is_allowed(const struct call *call, const struct command *command)
+{
+    const struct association *association = &command->table.entries[command->entry];
+    const uint8_t *rest = command->value + SPI_LENGTH;
+    switch (command->what) {
+    case START: /* 'start refuses (16) one outside 1 to 1,024' */
+        return channels_are_own(command) && window_is_allowed(association->window);
+    case REKEY: /* 'its key ID is 0'; 'keeping key and mark', so that no number can be asked for */
+        return number_of_octets(rest, ID_LENGTH) == 0 && number_of_octets(rest + ID_LENGTH, 4) == 0
+            && number_of_octets(rest + ID_LENGTH + 4, 8) == 0;
+    case SET_WINDOW:
+        return window_is_allowed(number_of_octets(rest, WINDOW_LENGTH));
+    case SET_NUMBER:
+        return number_is_allowed(rest, call->numbers[command->entry]);
+    default:
+        return true;
+    }
+}
+
+/* ---- the order: 1, 2, 13, 14, 15, 16, 6 ---- */
+
+static unsigned answer_of_command(const struct call *call, struct command *command)
+{
+    if (!read_image(call->image, call->image_length, &command->table)) {
+        return 1;
+    }
+    if (!numbers_agree(call, &command->table)) {
+        return 2;
+    }
+    if (!has_form(call, command)) {
+        return 13;
+    }
+    if (command->what != PING) { /* 'One SPI a command', but for the one that has none */
+        if (!find_spi(command)) {
+            return 14;
+        }
+        if (!is_in_state(command)) {
+            return 15;
+        }
+        if (!value_is_allowed(call, command)) {
+            return 16;
+        }
+    }
+    if (known[command->what].has_reply && call->output_length < FORM_LENGTH + known[command->what].reply_length) {
+        return 6;
+    }
+    return 0;
+}
+
+/* ---- what is done ---- */
+
+static void store(struct effect *effect, const struct command *command, size_t place, uint8_t octet)
+{
+    size_t body = 2 + 4 * command->table.count + 52 * command->entry;
+    struct store made = {body + place, octet};
+    effect->stores[effect->store_count++] = made;
+}
+
+/* Tag with its first bit set, length, and for all but ping the SPI; gives where the rest of the value goes. */
+static uint8_t *begin_reply(struct effect *effect, const struct command *command)
+{
+    size_t value_length = known[command->what].reply_length;
+    effect->result[0] = (uint8_t)(number_of_digits(known[command->what].tag) + 128);
+    effect->result[1] = (uint8_t)(value_length / 256);
+    effect->result[2] = (uint8_t)(value_length % 256);
+    effect->length = FORM_LENGTH + value_length;
+    memcpy(effect->result + FORM_LENGTH, command->value, value_length == 0 ? 0 : SPI_LENGTH);
+    return effect->result + FORM_LENGTH + SPI_LENGTH;
+}
+
+static void reply(const struct call *call, const struct command *command, struct effect *effect)
+{
+    uint8_t *rest = begin_reply(effect, command);
+    if (command->what == STATUS) {
+        *rest = (uint8_t)command->table.entries[command->entry].state;
+    } else if (command->what == READ_NUMBER) {
+        sequence_of_number(call->numbers[command->entry], rest);
+    }
+}
+
+void reading_command(const struct call *call, struct effect *effect)
+{
+    struct command command;
+    nothing_happens(effect);
+    effect->answer = answer_of_command(call, &command);
+    if (effect->answer != 0) {
+        return;
+    }
+    switch (command.what) {
+    case START:
+        store(effect, &command, AT_STATE, OPERATIONAL);
+        break;
+    case STOP:
+    case REKEY:
+        store(effect, &command, AT_STATE, KEYED);
+        break;
+    case EXPIRE:
+        store(effect, &command, AT_STATE, UNKEYED);
+        break;
+    case SET_WINDOW: /* 'a cut may leave either octet new': the first is stored first */
+        store(effect, &command, AT_WINDOW, command.value[SPI_LENGTH]);
+        store(effect, &command, AT_WINDOW + 1, command.value[SPI_LENGTH + 1]);
+        break;
+    case SET_NUMBER: /* 'raises marks one at a time first' */
+        take_number(effect, &command.table, command.entry, (uint32_t)number_of_octets(command.value + command.value_length - 4, 4));
+        break;
+    default:
+        reply(call, &command, effect);
+        break;
+    }
+}

@@ -1,0 +1,52 @@
+/* Random management commands (document 02, request 5), with a liking for limits. */
+#ifndef COMMANDS_H
+#define COMMANDS_H
+
+#include "both.h"
+#include "worlds.h"
+
+enum tag {
+    TAG_READ_NUMBER = 0x10,
+    TAG_SET_WINDOW = 0x15,
+    TAG_REKEY = 0x16,
+    TAG_EXPIRE = 0x19,
+    TAG_SET_NUMBER = 0x1A,
+    TAG_START = 0x1B,
+    TAG_STOP = 0x1E,
+    TAG_STATUS = 0x1F,
+    TAG_PING = 0x31
+};
+
+enum { TAG_COUNT = 9 };
+
+extern const unsigned every_tag[TAG_COUNT];
+extern const char *const tag_names[TAG_COUNT];
+
+/* Where a tag stands among them, or TAG_COUNT. */
+size_t index_of_tag(unsigned tag);
+
+/* The octets of the reply to a command that is done; 0 where it has none. */
+size_t reply_length(unsigned tag);
+
+/* Puts an entry into a state, mostly that which the command asks for, with a window that this allows, sometimes close to the last numbers
+ * there are; and gives the association as it then is. */
+void suit_command(struct random *random, struct end *end, size_t entry, unsigned tag, struct association *association);
+
+/* Makes the input's command: this tag for this association, of the right form, with values on either side of every limit. The last number
+ * is that of the association's entry. */
+void make_command(struct random *random, struct input *input, unsigned tag, const struct association *association, uint32_t last);
+
+/* Makes the input's command of this tag from a value. */
+void put_command(struct input *input, unsigned tag, const uint8_t *value, size_t length);
+
+/* The value of a command about an SPI alone, with a window, or with a number, and of a start that names one channel. Each is put at once. */
+void put_spi_alone(struct input *input, unsigned tag, unsigned spi);
+void put_set_window(struct input *input, unsigned spi, unsigned window);
+void put_set_number(struct input *input, unsigned spi, uint64_t number);
+void put_rekey(struct input *input, unsigned spi);
+void put_start(struct input *input, unsigned spi, uint32_t name);
+
+/* Another tag, another length with and without the length field put right, bits, octets at random. */
+void break_command(struct random *random, struct input *input);
+
+#endif
