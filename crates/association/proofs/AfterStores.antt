@@ -10,12 +10,12 @@ use native.Mathlib.Omega.{arith}
 use borrow.Author.Tests.{lt-ltb}
 use lib.Dec.{ltb}
 use lib.ListN.{length, take}
-use lib.Seq.{take-nil}
+use lib.Seq.{take-all, take-nil}
 use Rattle.octets.specs.Lists.{octet, Octets}
 use Rattle.octets.specs.Numbers.{numberAt}
 use Rattle.octets.proofs.Numbers.{numberAt-lt}
 use Rattle.marks.specs.Gray.{codeLength, gray, ungray}
-use Rattle.marks.specs.Stores.{storesIn, storeAt, firstStores, steps, stored}
+use Rattle.marks.specs.Stores.{storesIn, storeAt, storesOf, firstStores, steps, stored}
 use Rattle.marks.specs.declared.plans.Plan.{Plan}
 use Rattle.marks.specs.declared.plans.Plan.the-variants as plan
 use Rattle.marks.proofs.GrayCode.{ungray-gray, gray-ungray, ungray-lt}
@@ -71,6 +71,11 @@ module _ (image : List ℕ) (i n j : ℕ) where
   pub after-none : hasEntry image i ≡ false → afterStores image i n j ≡ image
   unfolding afterStores stored
   after-none e = rw (none e, take-nil)
+
+  -- j at least their number: the image after all of them
+  pub after-all : length (storesOf (planFor image i n)) ≤ j → afterStores image i n j ≡ stored image (storesOf (planFor image i n))
+  unfolding afterStores
+  after-all h = ap (stored image) (take-all j (storesOf (planFor image i n)) h)
 
   -- ---- what holds of every image: its length, its octets, and all that stands outside the mark
 

@@ -1,5 +1,5 @@
--- Document 01, 'Managed numbers': numbers that agree with the marks still do after a call: once all its stores are made, the entry's mark is
--- the new number's.
+-- Document 01, 'Managed numbers': numbers that agree with the marks still do after a call. An accepted number lies at most 1,024 above the
+-- last, so it asks for at most 16 stores; and once all of them are made, the entry's mark is the new number's.
 -- Assumes nothing.
 use mathlib.Core.Path.{_≡_, sym, ap, _∙_}
 use mathlib.Core.Bool.{true}
@@ -38,6 +38,13 @@ accepted last window n e =
 module _ (image last : List ℕ) (i n : ℕ) (agree : agrees image last ≡ true) (listed : i < countOf image) where
   mark-now : numberOf last i / 64 ≡ markIn image i
   mark-now = agreed image last agree i listed
+
+  -- ---- at most 16 stores
+
+  pub stores-most : (window : ℕ) → window ≤ 1024 → accepts (numberOf last i) window n ≡ true → n / 64 - markIn image i ≤ 16
+  stores-most window most e =
+      let a : Accepted (numberOf last i) window n = accepted (numberOf last i) window n e in
+      omega (arith, mark-now)
 
   -- ---- after all stores
 
