@@ -4,6 +4,7 @@ mod sequence;
 mod services;
 
 pub use sequence::Sequence;
+pub use sequence::long_number;
 pub use sequence::number_in;
 pub use sequence::security_header;
 pub use sequence::security_length;
