@@ -1,7 +1,8 @@
-// Document 02, request 5: the procedures that a command may call: its form, the channels that it names, and what each procedure asks, stores
+// Document 02, requests 5 and 9: the procedures that a command may call: its form, the channels and the key that it names, and what each procedure asks, stores
 // and replies. Nothing is changed but the output that a reply is written to.
 mod channels;
 mod form;
+mod named;
 mod plans;
 mod procedure;
 mod replies;
@@ -10,6 +11,8 @@ mod values;
 pub use form::FRONT;
 pub use form::called_by;
 pub use form::spi_named;
+pub use named::key_known;
+pub use named::key_ready;
 pub use plans::plan_of;
 pub use procedure::Called;
 pub use procedure::Procedure;

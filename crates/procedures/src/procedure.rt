@@ -16,6 +16,8 @@ pub enum Procedure {
     Status,
     ReadNumber,
     Ping,
+    Activation,
+    Deactivation,
 }
 
 pub enum Called {
@@ -37,6 +39,8 @@ pub(crate) fn with_tag(tag: u8) -> Called
         0x1F => Called::Procedure(Procedure::Status),
         0x10 => Called::Procedure(Procedure::ReadNumber),
         0x31 => Called::Procedure(Procedure::Ping),
+        0x02 => Called::Procedure(Procedure::Activation),
+        0x03 => Called::Procedure(Procedure::Deactivation),
         _ => Called::Nothing,
     }
 }
@@ -76,6 +80,8 @@ impl Procedure {
             Procedure::Status => n == SPI,
             Procedure::ReadNumber => n == SPI,
             Procedure::Ping => n == 0,
+            Procedure::Activation => n == KEY_ID,
+            Procedure::Deactivation => n == KEY_ID,
         }
     }
 
@@ -92,6 +98,8 @@ impl Procedure {
             Procedure::Status => true,
             Procedure::ReadNumber => true,
             Procedure::Ping => false,
+            Procedure::Activation => false,
+            Procedure::Deactivation => false,
         }
     }
 
@@ -108,6 +116,8 @@ impl Procedure {
             Procedure::Status => true,
             Procedure::ReadNumber => true,
             Procedure::Ping => true,
+            Procedure::Activation => true,
+            Procedure::Deactivation => true,
         }
     }
 }

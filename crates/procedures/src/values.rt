@@ -3,6 +3,7 @@ use crate::channels::channels_right;
 use crate::procedure::KEY_ID;
 use crate::procedure::Procedure;
 use crate::procedure::SPI;
+use bodies::layout_of;
 use bodies::window_fits;
 use bodies::window_of;
 use image::body_at;
@@ -10,7 +11,7 @@ use image::version_of;
 use judging::accepts;
 use octets::four_at;
 use octets::two_at;
-use services::number_in;
+use services::long_number;
 ghost use mathlib.Core.Path.{_≡_};
 ghost use mathlib.Core.Bool.{_&&_};
 ghost use mathlib.Core.List.{[]};
@@ -19,9 +20,6 @@ ghost use Rattle.image.specs.Image.{versionOf, bodyOf};
 ghost use Rattle.procedures.specs.Form.{numberBehindKey};
 ghost use Rattle.procedures.specs.Procedures.{start, rekey, setNumber, procedureIs};
 ghost use Rattle.procedures.specs.Steps.{Renumbered};
-
-// The service whose security header has its number in twelve octets behind the SPI, as a set number has it.
-const ENCRYPTING: u8 = 2;
 
 // The most by which a number may be set higher.
 const MOST_RISE: u16 = 1024;
@@ -43,11 +41,18 @@ fn number_is_0(value: &[u8]) -> bool
     (four_at(value, at) == 0) & (four_at(value, at + 4) == 0) & (four_at(value, at + 8) == 0)
 }
 
+// A rekey: no number, and in a version without a key part no key's ID.
+fn rekey_allowed(version: u8, value: &[u8]) -> bool
+    ensures { λ r. ⌜ r ≡ rekey .allows version [] 0 (now (value .entry)) ⌝ }
+{
+    (layout_of(version).keys | (two_at(value, SPI) == 0)) & number_is_0(value)
+}
+
 // A set number: above the last, by no more than a set number may rise, and not above the greatest.
 fn rise_allowed(last: u32, value: &[u8]) -> bool
     ensures { λ r. ⌜ r ≡ setNumber .allows 0 [] last (now (value .entry)) ⌝ }
 {
-    accepts(last, MOST_RISE, number_in(ENCRYPTING, value))
+    accepts(last, MOST_RISE, long_number(value))
 }
 
 pub fn allowed(procedure: Procedure, image: &[u8], entry: u8, last: u32, value: &[u8]) -> bool
@@ -56,13 +61,15 @@ pub fn allowed(procedure: Procedure, image: &[u8], entry: u8, last: u32, value: 
     match procedure {
         Procedure::Start => start_allowed(image, entry, value),
         Procedure::Stop => true,
-        Procedure::Rekey => (two_at(value, SPI) == 0) & number_is_0(value),
+        Procedure::Rekey => rekey_allowed(version_of(image), value),
         Procedure::Expire => true,
         Procedure::SetNumber => rise_allowed(last, value),
         Procedure::SetWindow => window_fits(two_at(value, SPI)),
         Procedure::Status => true,
         Procedure::ReadNumber => true,
         Procedure::Ping => true,
+        Procedure::Activation => true,
+        Procedure::Deactivation => true,
     }
 }
 
@@ -70,7 +77,7 @@ pub fn allowed(procedure: Procedure, image: &[u8], entry: u8, last: u32, value: 
 fn number_asked(last: u32, value: &[u8]) -> u32
     ensures { λ r. ⌜ Renumbered setNumber last (now (value .entry)) r ⌝ }
 {
-    number_in(ENCRYPTING, value).number
+    long_number(value).number
 }
 
 pub fn new_number(procedure: Procedure, last: u32, value: &[u8]) -> u32
@@ -86,5 +93,7 @@ pub fn new_number(procedure: Procedure, last: u32, value: &[u8]) -> u32
         Procedure::Status => last,
         Procedure::ReadNumber => last,
         Procedure::Ping => last,
+        Procedure::Activation => last,
+        Procedure::Deactivation => last,
     }
 }
