@@ -1,7 +1,7 @@
 #!/usr/bin/env python3
 """Makes the inputs and the expected results of crates/salvage and crates/salvage_cases, their files stdin and stdout.
 
-The rules are read off document 02 (request 12), and those of images off document 01, here, and not off the code:
+The rules are read off document 02 (request 12), and those of images off document 01 and requests 2 and 5, here, and not off the code:
 
   python3 tools/salvage_cases.py
 """
@@ -124,6 +124,8 @@ def curated():
         yield "%s %d in the second body" % (name, value), two_entries(**{name: value})
     for name, value in (("map", 1), ("window", 0), ("window", 1025), ("mask", 1)):
         yield "%s %d in the second body" % (name, value), two_entries(**{name: value})
+    for window in (0, 1025):
+        yield "window %d in the second body, keyed" % window, two_entries(window=window, state=1)
     yield "a mark of 2^26", image([entry(spi=4, code=gray(2**26)), entry(spi=9)])
 
 
