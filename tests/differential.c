@@ -17,7 +17,8 @@
 #include <stdio.h>
 #include <string.h>
 
-enum { CALLS_PER_WORLD = 40, KINDS = 4, SET_ROW = KINDS + 1, STAMP_ROW, ROWS, ANSWERS = 17, ENOUGH_FOR_EVERY_ANSWER = 50000, ENOUGH_FOR_EVERY_LIMIT = 150000 };
+enum { CALLS_PER_WORLD = 40, KINDS = 4, SET_ROW = KINDS + 1, STAMP_ROW, ROWS, ANSWERS = 17 };
+enum { ENOUGH_FOR_EVERY_ANSWER = 50000, ENOUGH_FOR_EVERY_LIMIT = 150000 };
 enum { MOST_SECONDARY = 64, ENOUGH_FOR_EVERY_LENGTH = 200000 }; /* octets of a secondary header */
 
 /* Windows and numbers of commands, at their limits: the window that a body has or a command asks for, and the step that set number asks for. */
@@ -40,7 +41,7 @@ struct run {
      * 1; service, or 0 for an empty image; answer */
     uint64_t tally[3][ROWS][3][ANSWERS];
     uint64_t commands[TAG_COUNT + 1][ANSWERS];       /* tag, or any that names none; answer */
-    uint64_t starts[3][ROWS][3];                     /* version; kind; done, refused by 15, by 16 */
+    uint64_t starts[3][SET_ROW + 1][3];              /* version; kind; done, refused by 15, by 16 */
     uint64_t windows_held[3][LIMITS];                /* state; window of the body, of starts */
     uint64_t windows_asked[3][LIMITS];               /* state; window of set window */
     uint64_t steps[2][LIMITS];                       /* well below the last number of all, or close to it; step of set number */
@@ -830,11 +831,11 @@ static bool command_can_give(size_t tag, unsigned answer)
 
 static unsigned print_starts(const struct run *run)
 {
-    static const char *const names[ROWS] = {"-", "1", "2", "3", "4", "set"};
+    static const char *const names[SET_ROW + 1] = {"-", "1", "2", "3", "4", "set"};
     unsigned faults = 0;
     printf("starts done, refused by 15 and by 16, by version and kind:");
     for (unsigned version = 1; version <= 2; version++) {
-        for (unsigned row = 1; row < ROWS; row++) {
+        for (unsigned row = 1; row <= SET_ROW; row++) {
             bool can_be = row == SET_ROW ? version == 2 : row != 3 || version == 1;
             const uint64_t *counts = run->starts[version][row];
             if (can_be) {

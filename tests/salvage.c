@@ -43,7 +43,7 @@ static void load(struct run *run)
     struct table table;
     input_of_end(&run->input, CALL_LOAD, &run->end);
     if (both_run(&run->random, &run->input).answer != 0) {
-        both_fail("an image that salvage made does not load");
+        both_fail("an image that breaks no rule does not load");
     }
     end_of_input(&run->end, &run->input);
     table_of(&run->end, &table);
@@ -232,6 +232,7 @@ static void start(struct run *run)
     for (size_t i = 0; i < run->count; i++) {
         table.entries[i].state = 2;
         table.entries[i].direction = 1;
+        any_window(&run->random, &table.entries[i]);
     }
     set_table(&run->end, &table);
     memset(run->histories, 0, sizeof run->histories);
