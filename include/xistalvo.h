@@ -214,7 +214,7 @@ uint64_t xistalvo_ground_check(uint8_t *image, size_t image_length, uint32_t *nu
  * as they are, for read number the SPI and numbers[i], for ping no value; the other commands have no reply, and their length is 0. The rest of
  * the output, the rest of the image and the other numbers stay.
  * Refused: image, numbers and output stay as they were. The command is never written.
- * A loss of power leaves the image after the first j of the stores, for some j, which loads; of set number these are those of xistalvo_raise. */
+ * A loss of power leaves the image after the first j of the stores, for some j, which loads: what xistalvo_command_cut leaves. */
 uint64_t xistalvo_command(uint8_t *image, size_t image_length, uint32_t *numbers, size_t numbers_length, const uint8_t *command,
                           size_t command_length, uint8_t *output, size_t output_length);
 
@@ -227,6 +227,14 @@ uint64_t xistalvo_command(uint8_t *image, size_t image_length, uint32_t *numbers
  * 2 + 4 k + 52 entry, whatever the contents say of its position.
  * Only those octets of the image are written. Securing, checking and commands make all their stores before they write the output. */
 uint32_t xistalvo_raise(uint8_t *image, size_t image_length, uint8_t entry, uint32_t number, uint32_t stores);
+
+/* The cut of a command: what xistalvo_command leaves of the image when power fails after its first stores.
+ *
+ * Makes, of the octet stores of xistalvo_command with these arguments and an output of output_length octets, the first as many as 'stores' says,
+ * or all where there are fewer, and returns how many it made. Where that call is refused: none is made and 0 returned.
+ * Only those octets of the image are written. */
+uint32_t xistalvo_command_cut(uint8_t *image, size_t image_length, const uint32_t *numbers, size_t numbers_length, const uint8_t *command,
+                              size_t command_length, size_t output_length, uint32_t stores);
 
 /* Says an answer in words. */
 static inline const char *xistalvo_answer_name(unsigned int answer)

@@ -16,6 +16,8 @@ uint64_t xistalvo64_ground_check(uint8_t *image, uint64_t image_length, uint32_t
 uint64_t xistalvo64_command(uint8_t *image, uint64_t image_length, uint32_t *numbers, uint64_t numbers_length, const uint8_t *command,
                             uint64_t command_length, uint8_t *output, uint64_t output_length);
 uint32_t xistalvo64_raise(uint8_t *image, uint64_t image_length, uint8_t entry, uint32_t number, uint32_t stores);
+uint32_t xistalvo64_command_cut(uint8_t *image, uint64_t image_length, const uint32_t *numbers, uint64_t numbers_length,
+                                const uint8_t *command, uint64_t command_length, uint64_t output_length, uint32_t stores);
 
 _Static_assert(sizeof(size_t) == 4, "where a size_t has 64 bits, the module's functions are the header's");
 
@@ -61,4 +63,10 @@ uint64_t xistalvo_command(uint8_t *image, size_t image_length, uint32_t *numbers
 uint32_t xistalvo_raise(uint8_t *image, size_t image_length, uint8_t entry, uint32_t number, uint32_t stores)
 {
     return xistalvo64_raise(image, image_length, entry, number, stores);
+}
+
+uint32_t xistalvo_command_cut(uint8_t *image, size_t image_length, const uint32_t *numbers, size_t numbers_length, const uint8_t *command,
+                              size_t command_length, size_t output_length, uint32_t stores)
+{
+    return xistalvo64_command_cut(image, image_length, numbers, numbers_length, command, command_length, output_length, stores);
 }

@@ -41,6 +41,7 @@ struct run {
      * 1; service, or 0 for an empty image; answer */
     uint64_t tally[3][ROWS][3][ANSWERS];
     uint64_t commands[TAG_COUNT + 1][ANSWERS];       /* tag, or any that names none; answer */
+    uint64_t command_cuts;
     uint64_t starts[3][SET_ROW + 1][3];              /* version; kind; done, refused by 15, by 16 */
     uint64_t windows_held[3][LIMITS];                /* state; window of the body, of starts */
     uint64_t windows_asked[3][LIMITS];               /* state; window of set window */
@@ -744,6 +745,13 @@ static void try_command(struct run *run, struct end *own)
     }
     any_output(random, &input, reply_length(tag) == 0 ? 1 : reply_length(tag));
     break_rest(random, &input);
+    if (random_percent(random, 20)) {
+        static struct input cut;
+        cut = input;
+        both_cut_command(random, &cut, random_percent(random, 90) ? random_below(random, 18) : (uint32_t)random_any(random));
+        run->inputs++;
+        run->command_cuts++;
+    }
     run_input(run, &input, &target, end);
 }
 
@@ -985,10 +993,10 @@ int main(int argument_count, char **arguments)
     unsigned never_asked = print_asked(&run);
     unsigned missing = print_secondary(&run, 0) + print_secondary(&run, 1) + (run.stamped_flips == 0);
     faults += run.options.count >= ENOUGH_FOR_EVERY_LENGTH ? missing : 0;
-    printf("differential: seed %" PRIu64 ", %" PRIu64 " inputs in %" PRIu64 " worlds, of them %" PRIu64 " cuts and %" PRIu64
+    printf("differential: seed %" PRIu64 ", %" PRIu64 " inputs in %" PRIu64 " worlds, of them %" PRIu64 " cuts, %" PRIu64 " cuts of commands and %" PRIu64
            " with every other association changed; %" PRIu64 " round trips, %" PRIu64 " frames changed in each bit, of them %" PRIu64
            " with a secondary header; no difference\n",
-           run.options.seed, run.inputs, world - run.options.from, run.raises, run.isolations, run.round_trips, run.flips, run.stamped_flips);
+           run.options.seed, run.inputs, world - run.options.from, run.raises, run.command_cuts, run.isolations, run.round_trips, run.flips, run.stamped_flips);
     if (faults != 0 && run.options.count >= ENOUGH_FOR_EVERY_ANSWER) {
         printf("differential: %u of the counts above are 0 and should not be, or the other way round\n", faults);
         return 1;

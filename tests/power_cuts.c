@@ -11,9 +11,9 @@
  *
  *   power_cuts [--seed S] [--count N] [--from W]
  *
- * The count is of steps; a run has 400 of them. A cut call is the first j stores of the call it cuts, made by xistalvo_raise, or of a command
- * with the state or the window in the paper's order, and hands out nothing; every j is tried on a copy, one is kept, and the end loads again,
- * as it must after power was lost.
+ * The count is of steps; a run has 400 of them. A cut call is the first j stores of the call it cuts, made by xistalvo_raise or, of a command,
+ * by xistalvo_command_cut, and hands out nothing; every j is tried on a copy, one is kept, and the end loads again, as it must after power was
+ * lost.
  *
  * Runs with an even number look at the module alone: what they conclude owes nothing to the independent reading, which only lays out and
  * reads images there. In the others each call is compared with it too (support/both.h). */
@@ -354,29 +354,19 @@ static void command(struct run *run, size_t side, size_t for_entry)
 
 /* ---- cuts ---- */
 
-/* Makes the first j stores of a call in the image, and gives how many were made. Those of sending, checking and set number raise a mark; other
- * commands store the state, or the window's first octet and then its second, each as the whole command leaves it. */
-static uint32_t store_first(struct run *run, uint8_t *image, size_t entry, const struct input *whole, uint32_t j)
+/* Makes the first j stores of a call in the image of an end, and gives how many were made. */
+static uint32_t store_first(struct run *run, struct end *end, size_t entry, const struct input *whole, uint32_t j)
 {
-    size_t body = 2 + 4u * image[1] + 52 * entry;
-    unsigned tag = whole->which == CALL_COMMAND ? whole->frame[0] : TAG_SET_NUMBER;
-    uint32_t made = 0;
-    switch (tag) {
-    case TAG_SET_NUMBER:
-        return both_raise(&run->random, image, whole->image_length, (uint8_t)entry, whole->numbers[entry], j);
-    case TAG_START: case TAG_STOP: case TAG_REKEY: case TAG_EXPIRE:
-        for (; made < j && made < 1; made++) {
-            image[body + 3] = whole->image[body + 3];
-        }
-        return made;
-    case TAG_SET_WINDOW:
-        for (; made < j && made < 2; made++) {
-            image[body + 8 + made] = whole->image[body + 8 + made];
-        }
-        return made;
-    default:
-        return 0;
+    static struct input input;
+    if (whole->which != CALL_COMMAND) {
+        return both_raise(&run->random, end->image, end->image_length, (uint8_t)entry, whole->numbers[entry], j);
     }
+    input = *whole;
+    memcpy(input.image, end->image, end->image_length);
+    memcpy(input.numbers, end->numbers, sizeof end->numbers);
+    uint32_t made = both_cut_command(&run->random, &input, j);
+    memcpy(end->image, input.image, end->image_length);
+    return made;
 }
 
 /* The mark in an image, by a load. */
@@ -398,17 +388,16 @@ static uint32_t mark_in(struct run *run, const struct end *end, const uint8_t *i
  * made it is the one that the whole call leaves. */
 static void try_cut(struct run *run, const struct end *end, size_t entry, uint32_t j, const struct input *whole, uint32_t stores)
 {
-    static struct input input;
+    struct end after = *end;
     bool raises = whole->which != CALL_COMMAND || whole->frame[0] == TAG_SET_NUMBER;
-    input_of_end(&input, CALL_LOAD, end);
-    uint32_t made = store_first(run, input.image, entry, whole, j);
+    uint32_t made = store_first(run, &after, entry, whole, j);
     if (made != (j < stores ? j : stores)) {
         both_fail("a cut made another number of stores than it was asked for");
     }
-    if (j >= stores && memcmp(input.image, whole->image, whole->image_length) != 0) {
+    if (j >= stores && memcmp(after.image, whole->image, whole->image_length) != 0) {
         both_fail("all stores of a cut call do not make the image of the whole call");
     }
-    if (mark_in(run, end, input.image, entry) != end->numbers[entry] / 64 + (raises ? made : 0)) {
+    if (mark_in(run, end, after.image, entry) != end->numbers[entry] / 64 + (raises ? made : 0)) {
         both_fail("a cut left another mark than that which each raise made one higher");
     }
     run->cuts_tried++;
@@ -442,7 +431,7 @@ static bool cut_call(struct run *run, size_t side, size_t entry)
     }
     uint32_t j = random_between(&run->random, 0, outcome.stores);
     uint32_t mark = mark_in(run, end, end->image, entry);
-    store_first(run, end->image, entry, &whole, j);
+    store_first(run, end, entry, &whole, j);
     if (mark_in(run, end, end->image, entry) != mark) {
         try_stale_numbers(run, end, &prepared);
     }

@@ -62,6 +62,14 @@ static void call_command(void)
     result = xistalvo_command(images[0], image_length, numbers[0], NUMBER_COUNT, command, sizeof command, opened, sizeof opened);
 }
 
+static void call_command_cut(void)
+{
+    static uint8_t command[XISTALVO_SET_NUMBER_LENGTH];
+    xistalvo_make_set_number(MOST_ENTRIES, numbers[0][MOST_ENTRIES - 1] + XISTALVO_LARGEST_STEP, command, sizeof command);
+    uint32_t made = xistalvo_command_cut(images[0], image_length, numbers[0], NUMBER_COUNT, command, sizeof command, sizeof opened, 1);
+    result = made == 1 ? 0 : UINT64_MAX;
+}
+
 static void (*current_call)(void);
 
 static void run_call(void)
@@ -163,6 +171,7 @@ int main(void)
                  {"check", call_check, XISTALVO_STACK},
                  {"command", call_command, XISTALVO_STACK},
                  {"raise", call_raise, XISTALVO_STACK},
+                 {"command_cut", call_command_cut, XISTALVO_STACK},
                  {"ground_secure", call_ground_secure, XISTALVO_GROUND_STACK},
                  {"ground_check", call_ground_check, XISTALVO_GROUND_STACK}};
     bool is_within = true;

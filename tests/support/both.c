@@ -278,3 +278,29 @@ uint32_t both_raise(struct random *random, uint8_t *image, size_t image_length, 
     }
     return made;
 }
+
+uint32_t both_cut_command(struct random *random, struct input *input, uint32_t stores)
+{
+    static struct input expected;
+    struct effect effect;
+    expected = *input;
+    place.input = &expected;
+    guarded_lend(&image_area, input->image, input->image_length, any_end(random), LEND_WRITABLE);
+    guarded_lend(&numbers_area, input->numbers, input->numbers_length * sizeof(uint32_t), any_end(random), LEND_READ_ONLY);
+    guarded_lend(&frame_area, input->frame, input->frame_length, any_end(random), LEND_READ_ONLY);
+    guarded_lend(&output_area, input->output, input->output_length, any_end(random), LEND_READ_ONLY);
+    uint32_t made = xistalvo_command_cut(image_area.range, input->image_length, (const uint32_t *)(const void *)numbers_area.range,
+                                         input->numbers_length, frame_area.range, input->frame_length, input->output_length, stores);
+    take_all_back();
+    fetch(input);
+    if (is_comparing) {
+        read_document(&expected, &effect);
+        if (made != (stores < effect.store_count ? stores : effect.store_count)) {
+            both_fail("a cut command made another number of stores than the reading");
+        }
+        carry_out_stores(&effect, stores, expected.image);
+        compare_ranges(input, &expected);
+    }
+    place.input = NULL;
+    return made;
+}

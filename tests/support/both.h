@@ -45,8 +45,9 @@ void both_compare(bool is_on);
  * the program with 1. */
 struct outcome both_run(struct random *random, struct input *input);
 
-/* The same for the cut; gives how many stores were made. */
+/* The same for the cuts, of a call that takes a number and of a command; gives how many stores were made. */
 uint32_t both_raise(struct random *random, uint8_t *image, size_t image_length, uint8_t entry, uint32_t number, uint32_t stores);
+uint32_t both_cut_command(struct random *random, struct input *input, uint32_t stores);
 
 /* Ends the program with 1 and a sentence, and where the run stands. */
 void both_fail(const char *sentence);

@@ -1,6 +1,7 @@
 -- Other projects' bodies change nothing of a command's answer either. With two valid images whose numbers agree with their marks, the same
 -- command with an output of the same length gives the same answer number, length, stores and reply, if both images have an entry with the
--- command's SPI, with the same body and the same number, or neither has one.
+-- command's SPI, with the same body, read by the same version, and the same number, or neither has one. A start names channels, and the same
+-- octets of a TM body are one channel in version 1 and a set in version 2.
 -- Assumes nothing.
 use Prim.Native.Nat.{ℕ}
 use mathlib.Core.Path.{_≡_}

@@ -115,6 +115,16 @@ mod interface {
             output_length: usize,
         ) -> u64;
         pub fn xistalvo_raise(image: *mut u8, image_length: usize, entry: u8, number: u32, stores: u32) -> u32;
+        pub fn xistalvo_command_cut(
+            image: *mut u8,
+            image_length: usize,
+            numbers: *const u32,
+            numbers_length: usize,
+            command: *const u8,
+            command_length: usize,
+            output_length: usize,
+            stores: u32,
+        ) -> u32;
     }
 }
 
@@ -226,4 +236,21 @@ pub fn command(image: &mut [u8], numbers: &mut Numbers, command: &[u8], output: 
 pub fn raise(image: &mut [u8], entry: u8, number: u32, stores: u32) -> u32 {
     // Safety: the range is lent with its length.
     unsafe { interface::xistalvo_raise(image.as_mut_ptr(), image.len(), entry, number, stores) }
+}
+
+/// The cut of a command with that much room for its reply: makes the first of its stores, and says how many it made.
+pub fn command_cut(image: &mut [u8], numbers: &Numbers, command: &[u8], room: usize, stores: u32) -> u32 {
+    // Safety: each range is lent with its length.
+    unsafe {
+        interface::xistalvo_command_cut(
+            image.as_mut_ptr(),
+            image.len(),
+            numbers.0.as_ptr(),
+            numbers.0.len(),
+            command.as_ptr(),
+            command.len(),
+            room,
+            stores,
+        )
+    }
 }
