@@ -669,6 +669,7 @@ def layers():
         "judging": (24, 12, 566, DATA, "the tests of a call, in their order"),
         "link": (24, 13, 280, DATA, "load, secure, check: carried out"),
         "procedures": (320, 13, 270, DATA, "what a command may call"),
+        "command_form": (566, 9, 150, DATA, "form of a command"),
         "commands": (205, 14, 385, DATA, "the command call: decided, then carried out"),
         "promises": (24, 14, 165, FREE, "theorems alone"),
         "witnesses": (24, 15, 100, FREE, "not empty"),
@@ -687,7 +688,7 @@ def layers():
     arrows = [
         ("witnesses", "promises", 74), ("command_promises", "promises", 161), ("command_promises", "commands", 254), ("link_c", "commands", 455),
         ("promises", "link", 106), ("commands", "link", 254), ("commands", "procedures", 455), ("link", "judging", 164),
-        ("procedures", "judging", 455), ("judging", "protection", 307),
+        ("procedures", "judging", 455), ("judging", "protection", 307), ("command_form", "association", 641),
         ("protection", "services", 184), ("protection", "frame", 437), ("services", "cmac", 80), ("services", "gcm", 244),
         ("association", "image", 616), ("image", "bodies", 616), ("bodies", "kinds", 537),
         ("bodies", "marks", 638), ("frame", "kinds", 437), ("kinds", "headers", 437), ("gcm", "gctr", 194), ("gcm", "ghash", 298),
@@ -698,7 +699,7 @@ def layers():
     ]
     needed = stands_on()
     assert set(needed) == set(boxes) | set(programs) | set(GROUND), "crates.txt has other crates"
-    drawn = arrows + [("services", "association", 320), ("frame", "check_field", 490)]
+    drawn = arrows + [("services", "association", 320), ("frame", "check_field", 490), ("procedures", "command_form", 590)]
     for name in boxes:
         assert needed[name] <= everything_below(name, drawn), f"an arrow is missing: {name}"
         direct = {below for above, below, _ in drawn if above == name}
@@ -715,7 +716,9 @@ def layers():
     for above, below, x in arrows:
         p.arrow([(x, top(boxes[above][1]) + high), (x, top(boxes[below][1]) - 1)])
     bend = top(boxes["services"][1]) + high + 12
-    p.arrow([(320, bend - 12), (320, bend), (616, bend), (616, top(boxes["association"][1]) - 1)])
+    p.arrow([(320, bend - 12), (320, bend), (544, bend), (544, top(boxes["association"][1]) - 1)])
+    middle = top(boxes["procedures"][1]) + high / 2
+    p.arrow([(590, middle), (641, middle), (641, top(boxes["command_form"][1]) - 1)])
     bend = top(boxes["frame"][1]) + high + 12
     p.arrow([(490, bend - 12), (490, bend), (574, bend), (574, top(boxes["check_field"][1]) - 1)])
     lab = "Dashed frame: with octets, what goes to the partner lab by itself. Nothing in it names a frame."

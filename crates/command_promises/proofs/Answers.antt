@@ -23,7 +23,7 @@ use Rattle.association.specs.declared.search.Found.the-variants as found
 use Rattle.judging.specs.Answers.{first}
 use Rattle.judging.specs.declared.answers.Answer.the-variants as answer
 use Rattle.link.proofs.Leaving.{left-answer}
-use Rattle.procedures.specs.Form.{frontLength, tagOf, valueOf, spiNamed, measured}
+use Rattle.command_form.specs.Form.{frontLength, tagOf, valueOf, spiNamed, measured}
 use Rattle.procedures.specs.Procedures.{procedureIs, procedureBehind, procedureOf, procedures, withTag, called}
 use Rattle.procedures.specs.declared.procedure.Called.{Called}
 use Rattle.procedures.specs.declared.procedure.Called.the-variants as calls

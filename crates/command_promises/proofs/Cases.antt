@@ -2,7 +2,7 @@
 -- Assumes nothing.
 use mathlib.Core.Path.{refl}
 use Rattle.association.specs.Search.{withSpi}
-use Rattle.procedures.specs.Channels.{channelsRight}
+use Rattle.command_form.specs.Channels.{channelsRight}
 use Rattle.procedures.specs.Procedures.{withTag, called}
 use Rattle.commands.specs.Commanding.{entryNamed, commandReply, commanded, commandedCut}
 use Rattle.promises.proofs.Computing.{everything}

@@ -15,7 +15,7 @@ use Rattle.kinds.specs.declared.kinds.Named.the-variants as naming
 use Rattle.bodies.specs.Body.{spacecraftOf, mapOf}
 use Rattle.image.specs.Image.{versionOf, bodyOf}
 use Rattle.association.specs.Search.{servesChannel}
-use Rattle.procedures.specs.Channels.{channelName, channelIn, namesOne}
+use Rattle.command_form.specs.Channels.{channelName, channelIn, namesOne}
 use Rattle.promises.specs.Forms.{formOf}
 use Rattle.promises.specs.Images.{versionIn, kindAt, spacecraftAt, channelAt, mapAt, isSet, ServesChannel, BodyRules}
 use Rattle.promises.proofs.Fields.{spacecraft-at, map-at}

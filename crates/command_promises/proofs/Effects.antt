@@ -22,7 +22,7 @@ use Rattle.association.proofs.LoadedNumbers.{agreed}
 use Rattle.judging.specs.Replies.{Reply}
 use Rattle.link.specs.Calls.{done, left, cut, loaded}
 use Rattle.link.proofs.Leaving.{left-answer, left-done, left-refused, cut-done, cut-refused}
-use Rattle.procedures.specs.Form.{valueOf}
+use Rattle.command_form.specs.Form.{valueOf}
 use Rattle.procedures.specs.Procedures.{procedureIs}
 use Rattle.procedures.specs.declared.procedure.Procedure as code
 use Rattle.procedures.specs.declared.procedure.Called.the-variants as calls

@@ -22,7 +22,7 @@ use Rattle.judging.proofs.First.{stops}
 use Rattle.link.specs.Calls.{left}
 use Rattle.link.proofs.Carried.{counted}
 use Rattle.link.proofs.Leaving.{left-done, left-refused, handed-result}
-use Rattle.procedures.specs.Form.{valueOf, spiNamed}
+use Rattle.command_form.specs.Form.{valueOf, spiNamed}
 use Rattle.procedures.specs.Procedures.{procedureIs, called}
 use Rattle.procedures.specs.declared.procedure.Called.{Called}
 use Rattle.procedures.specs.declared.procedure.Called.the-variants as calls

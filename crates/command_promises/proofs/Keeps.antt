@@ -15,7 +15,7 @@ use Rattle.marks.specs.declared.plans.Store.{Store}
 use Rattle.judging.specs.Replies.{Reply}
 use Rattle.link.specs.Calls.{done, left, cut, loaded}
 use Rattle.link.proofs.Leaving.{left-done, left-refused, cut-done, cut-refused}
-use Rattle.procedures.specs.Form.{valueOf}
+use Rattle.command_form.specs.Form.{valueOf}
 use Rattle.procedures.specs.Procedures.{procedureIs}
 use Rattle.commands.specs.Commanding.{commandReply, commanded, commandedCut}
 use Rattle.commands.proofs.Doing.{storesOf, numberFor, does}

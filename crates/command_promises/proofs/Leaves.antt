@@ -24,7 +24,7 @@ use Rattle.association.proofs.LoadedNumbers.{agreed}
 use Rattle.judging.specs.Replies.{Reply}
 use Rattle.link.specs.Calls as link
 use Rattle.link.proofs.Leaving.{left-answer, left-done, cut-done}
-use Rattle.procedures.specs.Form.{frontLength, valueOf, spiNamed, numberAsked}
+use Rattle.command_form.specs.Form.{frontLength, valueOf, spiNamed, numberAsked}
 use Rattle.procedures.specs.Procedures.{Procedure, procedureIs, procedures, withTag, setNumber}
 use Rattle.procedures.specs.declared.procedure.Called.the-variants as calls
 use Rattle.procedures.specs.declared.procedure.Procedure as code

@@ -18,8 +18,8 @@ use Rattle.bodies.proofs.ValidBodies as bodies
 use Rattle.image.specs.Image.{versionOf, bodyOf}
 use Rattle.association.specs.Numbers.{accepts}
 use Rattle.association.proofs.Agreement.{accepted}
-use Rattle.procedures.specs.Channels.{namesOne, channelCount, channelNamed, channelsRight}
-use Rattle.procedures.specs.Form.{frontLength, valueOf, keyAsked, numberBehindKey, windowAsked, numberAsked}
+use Rattle.command_form.specs.Channels.{namesOne, channelCount, channelNamed, channelsRight}
+use Rattle.command_form.specs.Form.{frontLength, valueOf, keyAsked, numberBehindKey, windowAsked, numberAsked}
 use Rattle.procedures.specs.Procedures.{Procedure, procedureIs, procedures, withTag, mostRise}
 use Rattle.procedures.specs.declared.procedure.Called.{Called}
 use Rattle.procedures.specs.declared.procedure.Called.the-variants as calls

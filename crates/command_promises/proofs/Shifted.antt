@@ -6,7 +6,7 @@ use mathlib.Core.List.{List}
 use lib.ListN.{drop}
 use lib.Seq.{drop-drop}
 use Rattle.octets.specs.Numbers.{number, numberAt}
-use Rattle.procedures.specs.Form.{frontLength, valueOf}
+use Rattle.command_form.specs.Form.{frontLength, valueOf}
 
 pub shifted : (command : List ℕ) (at n : ℕ) → numberAt at n (valueOf command) ≡ numberAt (frontLength + at) n command
 shifted command at n = ap (number n) (drop-drop at frontLength command)

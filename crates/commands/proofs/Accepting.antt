@@ -12,7 +12,7 @@ use Rattle.octets.specs.Output.{written, fronted}
 use Rattle.bodies.specs.Body.{stateOf}
 use Rattle.judging.specs.Answers.{first}
 use Rattle.judging.proofs.First.{passed}
-use Rattle.procedures.specs.Form.{spiNamed}
+use Rattle.command_form.specs.Form.{spiNamed}
 use Rattle.procedures.specs.Procedures.{Procedure}
 use Rattle.commands.specs.Commanding.{procedureTests}
 

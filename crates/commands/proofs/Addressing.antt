@@ -13,7 +13,7 @@ use Rattle.judging.specs.Answers.{Test, first, refusal}
 use Rattle.judging.specs.Verdicts.{Refuses}
 use Rattle.judging.specs.declared.answers.Answer.{Answer}
 use Rattle.judging.proofs.First.{passes, passed, stops}
-use Rattle.procedures.specs.Form.{valueOf}
+use Rattle.command_form.specs.Form.{valueOf}
 use Rattle.procedures.specs.Procedures.{procedureIs, procedureOf, called}
 use Rattle.procedures.specs.declared.procedure.Called.the-variants as calls
 use Rattle.procedures.specs.declared.procedure.Procedure as code

@@ -23,8 +23,8 @@ use Rattle.association.specs.Stores.{storesFor, afterStores}
 use Rattle.association.proofs.AfterStores.{raised, after-all}
 use Rattle.association.proofs.Agreement.{Accepted, accepted, stores-most, still-agrees}
 use Rattle.link.proofs.Carried.{counted}
-use Rattle.procedures.specs.Channels.{channelsRight}
-use Rattle.procedures.specs.Form.{spiLength, numberAsked}
+use Rattle.command_form.specs.Channels.{channelsRight}
+use Rattle.command_form.specs.Form.{spiLength, numberAsked}
 use Rattle.procedures.specs.Procedures.{Procedure, start, stop, rekey, expire, setNumber, setWindow, status, readNumber, ping}
 use Rattle.procedures.specs.Procedures.{mostRise, octetIn, procedureIs}
 use Rattle.procedures.specs.declared.procedure.Procedure as code

@@ -23,7 +23,7 @@ use Rattle.association.proofs.Finding.{First, first-at, first-nothing}
 use Rattle.judging.specs.Answers.{first}
 use Rattle.judging.specs.Replies.{Reply}
 use Rattle.judging.proofs.First.{passed}
-use Rattle.procedures.specs.Form.{frontLength, valueOf, spiNamed}
+use Rattle.command_form.specs.Form.{frontLength, valueOf, spiNamed}
 use Rattle.procedures.specs.Procedures.{procedureIs, procedureBehind, procedureOf, called}
 use Rattle.procedures.specs.declared.procedure.Called.{Called}
 use Rattle.procedures.specs.declared.procedure.Called.the-variants as calls

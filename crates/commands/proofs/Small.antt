@@ -15,7 +15,7 @@ use Rattle.judging.specs.Replies.{Reply}
 use Rattle.link.specs.Calls.{left}
 use Rattle.link.proofs.Leaving.{left-done, left-refused}
 use Rattle.link.proofs.Small.{Small, small-refused}
-use Rattle.procedures.specs.Form.{valueOf, spiNamed}
+use Rattle.command_form.specs.Form.{valueOf, spiNamed}
 use Rattle.procedures.specs.Procedures.{procedureIs}
 use Rattle.procedures.specs.declared.procedure.Procedure as code
 use Rattle.procedures.specs.declared.procedure.Procedure.the-variants as procedure

@@ -17,7 +17,7 @@ use Rattle.association.specs.declared.search.Found.the-variants as found
 use Rattle.judging.specs.Answers.{Test, first}
 use Rattle.judging.specs.Replies.{Reply}
 use Rattle.link.specs.Calls.{Left, left, cut}
-use Rattle.procedures.specs.Form.{valueOf, spiNamed}
+use Rattle.command_form.specs.Form.{valueOf, spiNamed}
 use Rattle.procedures.specs.Procedures.{Procedure, called, procedureOf}
 use Rattle.procedures.specs.declared.procedure.Called.{Called}
 use Rattle.procedures.specs.declared.procedure.Called.the-variants as calls

@@ -11,7 +11,7 @@ use Rattle.association.specs.declared.search.Found.the-variants as found
 use Rattle.judging.specs.Answers.{first}
 use Rattle.judging.specs.Replies.{Reply}
 use Rattle.judging.specs.Verdicts.{Refuses, Judgement}
-use Rattle.procedures.specs.Form.{frontLength, valueOf, spiNamed}
+use Rattle.command_form.specs.Form.{frontLength, valueOf, spiNamed}
 use Rattle.procedures.specs.Procedures.{procedureIs, procedureOf}
 use Rattle.procedures.specs.declared.procedure.Procedure as code
 use Rattle.commands.specs.Commanding.{entryNamed, addressTests, procedureTests, testsAt, replyAt}

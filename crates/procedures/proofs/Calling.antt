@@ -9,7 +9,7 @@ use borrow.Author.Tests.{eqb-true, leb-true}
 use lib.Dec.{eqb, leb}
 use lib.ListN.{length}
 use Rattle.octets.proofs.Alls.{and-left, and-right}
-use Rattle.procedures.specs.Form.{frontLength, tagOf, valueOf, measured}
+use Rattle.command_form.specs.Form.{frontLength, tagOf, valueOf, measured}
 use Rattle.procedures.specs.Procedures.{procedureIs, procedures, withTag, sizedFor, called}
 use Rattle.procedures.specs.declared.procedure.Called.{Called}
 use Rattle.procedures.specs.declared.procedure.Called.the-variants as calls

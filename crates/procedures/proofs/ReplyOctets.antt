@@ -10,7 +10,7 @@ use lib.ListN.{length, set, replicate}
 use Rattle.octets.specs.Numbers.{bytes}
 use Rattle.octets.specs.Output.{fronted}
 use Rattle.octets.proofs.Numbers.{bytes-append}
-use Rattle.procedures.specs.Form.{replyTo}
+use Rattle.command_form.specs.Form.{replyTo}
 use Rattle.procedures.specs.Procedures.{readNumber}
 
 -- no text leaves the output as it was

@@ -1,4 +1,2 @@
-pub mod Channels
-pub mod Form
 pub mod Procedures
 pub mod Steps

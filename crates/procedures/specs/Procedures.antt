@@ -14,9 +14,9 @@ use Rattle.bodies.specs.Layout.{statePlace, windowPlace}
 use Rattle.image.specs.Image.{bodyAt}
 use Rattle.association.specs.Numbers.{accepts}
 use Rattle.association.specs.Stores.{storesFor}
-use Rattle.procedures.specs.Channels.{channelsRight}
-use Rattle.procedures.specs.Form.{tagOf, valueOf, measured, spiLength, windowLength, windowAsked, keyIdLength, keyAsked, channelLength}
-use Rattle.procedures.specs.Form.{numberLength, numberAsked, numberBehindKey, replyTo}
+use Rattle.command_form.specs.Channels.{channelsRight}
+use Rattle.command_form.specs.Form.{tagOf, valueOf, measured, spiLength, windowLength, windowAsked, keyIdLength, keyAsked, channelLength}
+use Rattle.command_form.specs.Form.{numberLength, numberAsked, numberBehindKey, replyTo}
 use Rattle.procedures.specs.declared.procedure.Called.{Called}
 use Rattle.procedures.specs.declared.procedure.Called.the-variants as calls
 use Rattle.procedures.specs.declared.procedure.Procedure as code

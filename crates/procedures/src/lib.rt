@@ -1,19 +1,16 @@
-// Document 02, request 5: the procedures that a command may call: its form, the channels that it names, and what each procedure asks, stores
-// and replies. Nothing is changed but the output that a reply is written to.
-mod channels;
-mod form;
+// Document 02, request 5: the procedures that a command may call: what each asks, stores and replies. Nothing is changed but the output that a
+// reply is written to.
 mod plans;
 mod procedure;
 mod replies;
+mod tags;
 mod values;
 
-pub use form::FRONT;
-pub use form::called_by;
-pub use form::spi_named;
 pub use plans::plan_of;
 pub use procedure::Called;
 pub use procedure::Procedure;
 pub use replies::reply_size;
 pub use replies::write_reply;
+pub use tags::called_by;
 pub use values::allowed;
 pub use values::new_number;

@@ -1,12 +1,12 @@
 // What a command stores, before any of it is stored.
 use crate::procedure::Procedure;
-use crate::procedure::SPI;
 use association::plan_for;
 use bodies::KEYED;
 use bodies::OPERATIONAL;
 use bodies::STATE;
 use bodies::UNKEYED;
 use bodies::WINDOW;
+use command_form::SPI;
 use image::body_at;
 use marks::Plan;
 use marks::Store;

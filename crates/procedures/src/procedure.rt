@@ -3,6 +3,9 @@
 use bodies::KEYED;
 use bodies::OPERATIONAL;
 use bodies::UNKEYED;
+use command_form::CHANNEL;
+use command_form::KEY_ID;
+use command_form::SPI;
 ghost use mathlib.Core.Path.{_≡_};
 ghost use Rattle.procedures.specs.Procedures.{start, procedureIs, procedures, withTag};
 
@@ -41,13 +44,7 @@ pub(crate) fn with_tag(tag: u8) -> Called
     }
 }
 
-// The octets of an SPI, and of what may stand behind it.
-pub(crate) const SPI: usize = 2;
-
-pub(crate) const CHANNEL: usize = 4;
-
-pub(crate) const KEY_ID: usize = 2;
-
+// The octets of a window and of a number behind an SPI.
 const WINDOW: usize = 2;
 
 const NUMBER: usize = 12;

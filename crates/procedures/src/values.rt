@@ -1,10 +1,10 @@
 // The value of a command: whether it may be carried out, and the number that the association then has.
-use crate::channels::channels_right;
-use crate::procedure::KEY_ID;
 use crate::procedure::Procedure;
-use crate::procedure::SPI;
 use bodies::window_fits;
 use bodies::window_of;
+use command_form::KEY_ID;
+use command_form::SPI;
+use command_form::channels_right;
 use image::body_at;
 use image::version_of;
 use judging::accepts;
@@ -16,7 +16,7 @@ ghost use mathlib.Core.Bool.{_&&_};
 ghost use mathlib.Core.List.{[]};
 ghost use lib.Dec.{eqb};
 ghost use Rattle.image.specs.Image.{versionOf, bodyOf};
-ghost use Rattle.procedures.specs.Form.{numberBehindKey};
+ghost use Rattle.command_form.specs.Form.{numberBehindKey};
 ghost use Rattle.procedures.specs.Procedures.{start, rekey, setNumber, procedureIs};
 ghost use Rattle.procedures.specs.Steps.{Renumbered};
 

@@ -9,7 +9,7 @@ use lib.Seq.{take-all}
 use Rattle.judging.specs.Replies.{Reply}
 use Rattle.link.specs.Calls.{left}
 use Rattle.link.proofs.Carried.{carried-refusal}
-use Rattle.procedures.specs.Form.{frontLength}
+use Rattle.command_form.specs.Form.{frontLength}
 use Rattle.commands.specs.Commanding.{commandReply, commanded}
 use Rattle.commands.specs.Steps.{Addressed, replyUnder}
 use Rattle.commands.specs.declared.address.Address.{Address}

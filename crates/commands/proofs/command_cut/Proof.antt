@@ -8,7 +8,7 @@ use lib.ListN.{length, take, drop, length-drop}
 use lib.Seq.{take-all}
 use Rattle.judging.specs.Replies.{Reply}
 use Rattle.link.specs.Calls.{cut}
-use Rattle.procedures.specs.Form.{frontLength}
+use Rattle.command_form.specs.Form.{frontLength}
 use Rattle.commands.specs.Commanding.{madeBy, commandReply}
 use Rattle.commands.specs.Steps.{Addressed, replyUnder}
 use Rattle.commands.specs.declared.address.Address.{Address}

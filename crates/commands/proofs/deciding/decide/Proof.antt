@@ -13,7 +13,7 @@ use Rattle.judging.specs.Answers.{Test, first}
 use Rattle.judging.specs.declared.answers.Answer.the-variants as answer
 use Rattle.judging.proofs.Admitting.{refuses}
 use Rattle.judging.proofs.First.{none-left, applies, passes}
-use Rattle.procedures.specs.Form.{spiNamed}
+use Rattle.command_form.specs.Form.{spiNamed}
 use Rattle.procedures.specs.Procedures.{Procedure, procedureIs}
 use Rattle.commands.specs.Commanding.{procedureTests}
 use borrow.Author.Needs.{needs}

@@ -16,7 +16,7 @@ use Rattle.kinds.specs.declared.kinds.Named.{Named}
 use Rattle.kinds.specs.declared.kinds.Named.the-variants as naming
 use Rattle.bodies.specs.Body.{kindIn, spacecraftOf, mapOf}
 use Rattle.association.specs.Search.{servesChannel}
-use Rattle.procedures.specs.Form.{spiLength, channelLength}
+use Rattle.command_form.specs.Form.{spiLength, channelLength}
 
 -- the bits of each field: TC 10, 6 and for the MAP 6; TM 10 and 3; AOS 2, which are 01, 8 and 6
 abbrev pub channelName : code.Kind → ℕ → ℕ → ℕ → ℕ

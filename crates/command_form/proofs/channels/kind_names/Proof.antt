@@ -1,8 +1,8 @@
 -- `kind_names` is right because it joins the two tests that the definition joins.
 -- Assumes nothing.
 use borrow.Author.Needs.{needs}
-use Rattle.procedures.proofs.channels.kind_names.Statement.{statement}
-use Rattle.procedures.proofs.channels.kind_names.Tie as tie
+use Rattle.command_form.proofs.channels.kind_names.Statement.{statement}
+use Rattle.command_form.proofs.channels.kind_names.Tie as tie
 
 returns : tie.Need-returns
 returns c =

@@ -1,6 +1,6 @@
 // A channel that a start names, in four octets.
-use crate::procedure::CHANNEL;
-use crate::procedure::SPI;
+use crate::form::CHANNEL;
+use crate::form::SPI;
 use association::serves_channel;
 use bodies::kind_in;
 use bodies::map_of;
@@ -12,7 +12,7 @@ use octets::four_at;
 ghost use mathlib.Core.Path.{_≡_};
 ghost use Rattle.kinds.specs.Kinds.{named};
 ghost use Rattle.bodies.specs.Body.{bodyIn, kindIn};
-ghost use Rattle.procedures.specs.Channels.{channelName, channelIn, namesOne, channelCount, channelsRight};
+ghost use Rattle.command_form.specs.Channels.{channelName, channelIn, namesOne, channelCount, channelsRight};
 
 // Spacecraft, virtual channel and MAP, each in as many bits as the kind has for it; before those of AOS frames their version bits, 01.
 fn channel_name(kind: Kind, spacecraft: u16, channel: u8, map: u8) -> u32
@@ -67,7 +67,7 @@ fn channel_count(value: &[u8]) -> usize
 }
 
 // Whether each channel behind the SPI is the body's. All are tested, also behind one that is not.
-pub(crate) fn channels_right(image: &[u8], version: u8, at: u16, value: &[u8]) -> bool
+pub fn channels_right(image: &[u8], version: u8, at: u16, value: &[u8]) -> bool
     ensures { λ r. ⌜ r ≡ channelsRight version (bodyIn (now (image .entry)) version at) (now (value .entry)) ⌝ }
 {
     let count = channel_count(value);

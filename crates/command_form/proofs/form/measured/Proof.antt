@@ -1,8 +1,8 @@
 -- `measured` is right because it joins the two tests that the definition joins.
 -- Assumes nothing.
 use borrow.Author.Needs.{needs}
-use Rattle.procedures.proofs.form.measured.Statement.{statement}
-use Rattle.procedures.proofs.form.measured.Tie as tie
+use Rattle.command_form.proofs.form.measured.Statement.{statement}
+use Rattle.command_form.proofs.form.measured.Tie as tie
 
 returns : tie.Need-returns
 returns c = rw (c .value-length .ensures, c .before .two-at .ensures)

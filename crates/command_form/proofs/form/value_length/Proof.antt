@@ -3,8 +3,8 @@
 use native.Mathlib.Omega.{arith}
 use lib.ListN.{length-drop}
 use borrow.Author.Needs.{needs}
-use Rattle.procedures.proofs.form.value_length.Statement.{statement}
-use Rattle.procedures.proofs.form.value_length.Tie as tie
+use Rattle.command_form.proofs.form.value_length.Statement.{statement}
+use Rattle.command_form.proofs.form.value_length.Tie as tie
 
 returns : tie.Need-returns
 returns c = simp length-drop (omega arith)

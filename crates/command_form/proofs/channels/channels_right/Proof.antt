@@ -8,10 +8,10 @@ use lib.ListN.{length}
 use Rattle.octets.specs.Lists.{all}
 use Rattle.kinds.specs.Kinds.{named}
 use Rattle.bodies.specs.Body.{bodyIn, kindIn}
-use Rattle.procedures.specs.Channels.{namesOne, channelCount, channelNamed, channelsRight}
+use Rattle.command_form.specs.Channels.{namesOne, channelCount, channelNamed, channelsRight}
 use borrow.Author.Needs.{needs}
-use Rattle.procedures.proofs.channels.channels_right.Statement.{statement}
-use Rattle.procedures.proofs.channels.channels_right.Tie as tie
+use Rattle.command_form.proofs.channels.channels_right.Statement.{statement}
+use Rattle.command_form.proofs.channels.channels_right.Tie as tie
 
 abbrev Inv-loop : tie.InvT-loop
 Inv-loop image version at value count ok₀ i₀ ok i =

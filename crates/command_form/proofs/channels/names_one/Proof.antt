@@ -1,8 +1,8 @@
 -- `names_one` is right because the kind that the body's number names reads the name, and a number that names none has no channel.
 -- Assumes nothing.
 use borrow.Author.Needs.{needs}
-use Rattle.procedures.proofs.channels.names_one.Statement.{statement}
-use Rattle.procedures.proofs.channels.names_one.Tie as tie
+use Rattle.command_form.proofs.channels.names_one.Statement.{statement}
+use Rattle.command_form.proofs.channels.names_one.Tie as tie
 
 returns : tie.Need-returns
 returns c =

@@ -4,12 +4,12 @@ use mathlib.Core.Path.{_≡_, sym, ap, _∙_}
 use mathlib.Core.Bool.{_&&_}
 use Prim.Native.Nat.{ℕ}
 use lib.ListN.{length}
-use Rattle.procedures.specs.Form.{tagOf, valueOf, measured}
+use Rattle.command_form.specs.Form.{tagOf, valueOf, measured}
 use Rattle.procedures.specs.Procedures.{procedureIs, procedures, withTag}
 use Rattle.procedures.proofs.Calling.{called-none, called-so, called-wrong}
 use borrow.Author.Needs.{needs}
-use Rattle.procedures.proofs.form.called_by.Statement.{statement}
-use Rattle.procedures.proofs.form.called_by.Tie as tie
+use Rattle.procedures.proofs.tags.called_by.Statement.{statement}
+use Rattle.procedures.proofs.tags.called_by.Tie as tie
 
 -- the procedure that has the command's tag
 tagged : (c : tie.After-with-tag) → c .with-tag .result ≡ withTag (tagOf (c .before .before .before .args .command .now)) procedures
