@@ -1,19 +1,19 @@
 -- A command answers the first rule that is broken: each test of the definitions is a rule of the promise, and they come in the same order.
 -- Assumes nothing.
-use Prim.Native.Nat.{ℕ, _+_, _-_, _≤_, _<_}
+use Prim.Native.Nat.{ℕ, _+_, _-_, _≤_}
 use mathlib.Core.Path.{_≡_, refl, sym, ap, subst, _∙_}
 use mathlib.Core.Logic.{_⊎_, inl, inr}
 use mathlib.Core.Bool.{Bool, true, false, cond, not, _&&_}
-use mathlib.Core.List.{List, [], _∷_, _++_}
+use mathlib.Core.List.{List, [], _∷_}
 use native.Mathlib.Omega.{arith}
-use borrow.Author.Tests.{eqb-true, eq-eqb, leb-true, le-leb, ltb-true, ltb-false, not-true, not-false}
-use lib.Dec.{eqb, leb, ltb}
+use borrow.Author.Tests.{eqb-true, eq-eqb, le-leb, ltb-true, ltb-false, not-true, not-false}
+use lib.Dec.{leb, ltb}
 use lib.ListN.{length, length-drop}
 use Rattle.octets.specs.Lists.{octet, Octets}
 use Rattle.octets.specs.Numbers.{numberAt}
-use Rattle.octets.proofs.Alls.{and-left, and-right}
+use Rattle.octets.proofs.Alls.{and-right}
 use Rattle.bodies.specs.Body.{stateOf}
-use Rattle.image.specs.Image.{versionOf, countOf, spiOf, bodyOf, validImage}
+use Rattle.image.specs.Image.{versionOf, bodyOf, validImage}
 use Rattle.image.proofs.ValidImages.{valid, spi-once}
 use Rattle.association.specs.Association.{indexOf}
 use Rattle.numbers.specs.Numbers.{agrees}
@@ -24,16 +24,16 @@ use Rattle.judging.specs.Answers.{first}
 use Rattle.judging.specs.declared.answers.Answer.the-variants as answer
 use Rattle.link.proofs.Leaving.{left-answer}
 use Rattle.command_form.specs.Form.{frontLength, tagOf, valueOf, spiNamed, measured}
-use Rattle.procedures.specs.Procedures.{procedureIs, procedureBehind, procedureOf, procedures, withTag, called}
+use Rattle.procedures.specs.Procedures.{procedureIs, procedureBehind, procedures, withTag, called}
 use Rattle.procedures.specs.declared.procedure.Called.{Called}
 use Rattle.procedures.specs.declared.procedure.Called.the-variants as calls
 use Rattle.procedures.specs.declared.procedure.Procedure as code
 use Rattle.procedures.specs.declared.procedure.Procedure.the-variants as procedure
-use Rattle.procedures.proofs.Calling.{called-none, called-so, called-parts, called-measured, called-sized, called-long, called-tag}
-use Rattle.commands.specs.Commanding.{callsNone, entryNamed, isNothing, addressTests, testsAt, commandReply, commanded}
-use Rattle.commands.proofs.Done.{spi-found, spi-missing, spi-at}
+use Rattle.procedures.proofs.Calling.{called-so, called-parts, called-measured, called-sized, called-long, called-tag}
+use Rattle.commands.specs.Commanding.{callsNone, entryNamed, isNothing, testsAt, commandReply, commanded}
+use Rattle.commands.proofs.Done.{spi-found, spi-missing}
 use Rattle.promises.specs.Answers.{Rules, rule, noMore}
-use Rattle.promises.specs.Images.{countIn, spiAt, stateAt, lastAt, ImageRules, Agreeing}
+use Rattle.promises.specs.Images.{stateAt, lastAt, ImageRules}
 use Rattle.promises.proofs.Answers.{Numbered, exactly, step, next-rule, last-done, differ}
 use Rattle.promises.proofs.Fields.{state-at}
 use Rattle.promises.proofs.Valids.{rules-kept, rules-valid, agreement, agreement-tested}

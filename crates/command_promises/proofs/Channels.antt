@@ -1,6 +1,6 @@
 -- A channel that a start names is one of the body's, as the definition tests it and as the promise says it: by the kind of the body.
 -- Assumes nothing.
-use Prim.Native.Nat.{ℕ, zero, suc, _+_, _-_, _*_, _/_, _%_, _≤_, _<_}
+use Prim.Native.Nat.{ℕ, zero, suc, _+_, _-_, _*_, _/_, _%_, _≤_}
 use mathlib.Core.Path.{_≡_, refl, sym, ap, ap₂, _∙_}
 use mathlib.Core.Bool.{Bool, true, false, _&&_, and-false}
 use mathlib.Core.List.{List}
@@ -17,7 +17,7 @@ use Rattle.image.specs.Image.{versionOf, bodyOf}
 use Rattle.association.specs.Search.{servesChannel}
 use Rattle.command_form.specs.Channels.{channelName, channelIn, namesOne}
 use Rattle.promises.specs.Forms.{formOf}
-use Rattle.promises.specs.Images.{versionIn, kindAt, spacecraftAt, channelAt, mapAt, isSet, ServesChannel, BodyRules}
+use Rattle.promises.specs.Images.{versionIn, kindAt, mapAt, isSet, ServesChannel, BodyRules}
 use Rattle.promises.proofs.Fields.{spacecraft-at, map-at}
 use Rattle.promises.proofs.Valids.{channel-served, serves-channel}
 use Rattle.command_promises.specs.Rows.{IsChannel}

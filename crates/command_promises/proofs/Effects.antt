@@ -21,7 +21,7 @@ use Rattle.marks.specs.declared.plans.Store.{Store}
 use Rattle.numbers.proofs.LoadedNumbers.{agreed}
 use Rattle.judging.specs.Replies.{Reply}
 use Rattle.link.specs.Calls.{done, left, cut, loaded}
-use Rattle.link.proofs.Leaving.{left-answer, left-done, left-refused, cut-done, cut-refused}
+use Rattle.link.proofs.Leaving.{left-done, left-refused, cut-done, cut-refused}
 use Rattle.command_form.specs.Form.{valueOf}
 use Rattle.procedures.specs.Procedures.{procedureIs}
 use Rattle.procedures.specs.declared.procedure.Procedure as code

@@ -27,7 +27,7 @@ use Rattle.promises.specs.Runs as frames
 use Rattle.promises.proofs.Keeps as frame
 use Rattle.promises.proofs.Keeps.{Inv, loaded-image, load-inv}
 use Rattle.command_promises.specs.Runs.{Step, call, command, commandCut, after}
-use Rattle.command_promises.proofs.Unmanaged.{Same, same-refl, same-marks, same-managed}
+use Rattle.command_promises.proofs.Unmanaged.{Same, same-itself, same-marks, same-managed}
 
 pub record Keeps (x y : State) : Type 0 where
   pub inv : Inv y
@@ -42,7 +42,7 @@ module _ (x : State) (inv : Inv x) where
   last = x .numbers
 
   unchanged : Keeps x x
-  unchanged = record { inv = inv; stays = refl; same = same-refl s }
+  unchanged = record { inv = inv; stays = refl; same = same-itself s }
 
   load-keeps : (t any : List ℕ) → Octets t → validImage t ≡ validImage s → Same s t → Keeps x (kept (loaded t any))
   load-keeps t any octets stays same =
@@ -103,7 +103,7 @@ module _ (x : State) (inv : Inv x) where
         rw is
         (load-keeps (stored s (take j (storesOf (procedureIs p) s last i (valueOf c)))) any (m .octets)
         (m .valid ∙ sym (valid-so z)) (same-managed s i _ listed m))
-    cut-at j any z (nowhere none same) = rw (none, take-nil {A = Store} j) (load-keeps s any (inv .octets) refl (same-refl s))
+    cut-at j any z (nowhere none same) = rw (none, take-nil {A = Store} j) (load-keeps s any (inv .octets) refl (same-itself s))
 
     cut-keeps : (j : ℕ) (any : List ℕ) → Keeps x (kept (loaded (commandedCut s last c output j) any))
     unfolding commandedCut
@@ -111,7 +111,7 @@ module _ (x : State) (inv : Inv x) where
       where
         by-answer : Dec (q .answer ≡ 0) → Keeps x (kept (loaded (cut q s j) any))
         by-answer (yes z) = rw (cut-done q s j z) (cut-at j any z (where-done z))
-        by-answer (no z) = rw (cut-refused q s j z) (load-keeps s any (inv .octets) refl (same-refl s))
+        by-answer (no z) = rw (cut-refused q s j z) (load-keeps s any (inv .octets) refl (same-itself s))
 
 -- ---- every step
 

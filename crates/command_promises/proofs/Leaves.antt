@@ -8,7 +8,7 @@ use native.Mathlib.Omega.{arith}
 use lib.ListN.{length, set, take}
 use lib.Seq.{take-length, take-nil, getD-drop, set-getD}
 use Rattle.octets.specs.Lists.{octet, Octets}
-use Rattle.octets.specs.Numbers.{numberAt, bytes}
+use Rattle.octets.specs.Numbers.{bytes}
 use Rattle.marks.specs.Gray.{gray}
 use Rattle.marks.specs.Stores.{stored}
 use Rattle.marks.specs.declared.plans.Store.{Store}
@@ -17,7 +17,6 @@ use Rattle.image.specs.Image.{versionOf, bodyAt, bodyOf, markIn, validImage}
 use Rattle.image.proofs.ValidImages.{valid}
 use Rattle.numbers.specs.Stores.{storesFor, afterStores}
 use Rattle.association.specs.Search.{withSpi}
-use Rattle.association.specs.declared.search.Found.{Found}
 use Rattle.association.specs.declared.search.Found.the-variants as found
 use Rattle.numbers.proofs.AfterStores.{Raised, raised, after-all}
 use Rattle.numbers.proofs.LoadedNumbers.{agreed}
@@ -36,7 +35,7 @@ use Rattle.commands.proofs.Doing.{Ready, storesOf, numberFor, does, accepted-nu
 use Rattle.commands.proofs.Done.{Done, done, Where, at, nowhere, spi-at}
 use Rattle.commands.proofs.Done as deciding
 use Rattle.commands.proofs.Managed.{Managed}
-use Rattle.promises.specs.Images.{place, spiAt, lastAt, ImageRules, Agreeing}
+use Rattle.promises.specs.Images.{place, spiAt, lastAt, Agreeing}
 use Rattle.promises.specs.Leaves.{MarkAlone}
 use Rattle.promises.proofs.Fields.{stands, state-at}
 use Rattle.promises.proofs.Stored.{outside}

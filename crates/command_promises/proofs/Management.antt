@@ -3,8 +3,8 @@
 -- Assumes nothing.
 use Prim.Native.Nat.{ℕ, _+_, _*_, _≤_, _<_}
 use mathlib.Core.Path.{_≡_, refl, sym, ap, ap₂, subst, _∙_}
-use mathlib.Core.Logic.{_⊎_, inl, inr}
-use mathlib.Core.Bool.{Bool, true, false, _&&_}
+use mathlib.Core.Logic.{inl, inr}
+use mathlib.Core.Bool.{true, _&&_}
 use mathlib.Core.List.{List, [], _∷_, _++_}
 use native.Mathlib.Omega.{arith}
 use lib.Dec.{eqb}
@@ -30,14 +30,14 @@ use Rattle.commands.proofs.Managed.{Managed, state-only, state-stored, window-s
 use Rattle.promises.specs.Answers.{Rules, rule, reporting, reportOf, Gives}
 use Rattle.promises.specs.Frames.{FrameRules, RightField, spiOn}
 use Rattle.promises.specs.Images.{versionIn, countIn, spiAt, place, kindAt, stateAt, spacecraftAt, channelAt, mapAt, windowAt, lastAt, isSet}
-use Rattle.promises.specs.Images.{ServesChannel, ImageRules, Agreeing, Serves}
+use Rattle.promises.specs.Images.{ImageRules, Agreeing, Serves}
 use Rattle.promises.proofs.Answers.{answering}
 use Rattle.promises.proofs.Fields.{stands, kind-at, state-at, spacecraft-at, channel-at, map-at, window-at}
 use Rattle.promises.proofs.Valids.{between-tested, rules-kept, rules-valid, agreement, agreement-tested}
-use Rattle.command_promises.specs.Answers.{rowIn, FormRules, commandRules}
+use Rattle.command_promises.specs.Answers.{rowIn, FormRules}
 use Rattle.command_promises.specs.Leaves.{Leaves, writes, LeavesAt, SetsNumber}
 use Rattle.command_promises.specs.Management.{Speaks, Starts, Rekeys, Restored, Stopped, Management}
-use Rattle.command_promises.specs.Rows.{Row, Names, IsChannel, StartValue, rowOf}
+use Rattle.command_promises.specs.Rows.{Names, IsChannel, rowOf}
 use Rattle.command_promises.proofs.Answers.{command-answers}
 use Rattle.command_promises.proofs.Leaves.{command-leaving, octets-after}
 

@@ -1,22 +1,20 @@
 -- The definitions' record of a procedure asks what the promises' row of its tag asks: for each procedure once; and a tag that no procedure
 -- has has no row.
 -- Assumes nothing.
-use Prim.Native.Nat.{ℕ, _+_, _-_, _*_, _/_, _%_, _≤_, _<_}
-use mathlib.Core.Path.{_≡_, refl, sym, ap, ap₂, subst, _∙_}
+use Prim.Native.Nat.{ℕ, _+_, _-_, _*_, _/_, _%_, _≤_}
+use mathlib.Core.Path.{_≡_, refl, sym, ap, ap₂, _∙_}
 use mathlib.Core.Bool.{Bool, true, false, cond, not, _&&_}
-use mathlib.Core.List.{List, [], _∷_}
+use mathlib.Core.List.{List}
 use native.Mathlib.Omega.{arith}
 use borrow.Author.Tests.{eqb-true, eqb-false, eq-eqb, ne-eqb, leb-true, le-leb, not-true}
 use lib.Dec.{eqb, leb}
 use lib.ListN.{length, length-drop}
-use Rattle.octets.specs.Lists.{octet, Octets}
 use Rattle.octets.specs.Numbers.{numberAt, bytes}
 use Rattle.octets.proofs.Alls.{and-left, and-right, all-at, all-every}
 use Rattle.kinds.specs.Kinds.{named}
-use Rattle.bodies.specs.Body.{kindIn, stateOf, windowOf, mostWindow}
+use Rattle.bodies.specs.Body.{kindIn, windowOf, mostWindow}
 use Rattle.bodies.proofs.ValidBodies as bodies
 use Rattle.image.specs.Image.{versionOf, bodyOf}
-use Rattle.numbers.specs.Numbers.{accepts}
 use Rattle.numbers.proofs.Agreement.{accepted}
 use Rattle.command_form.specs.Channels.{namesOne, channelCount, channelNamed, channelsRight}
 use Rattle.command_form.specs.Form.{frontLength, valueOf, keyAsked, numberBehindKey, windowAsked, numberAsked}
@@ -25,11 +23,11 @@ use Rattle.procedures.specs.declared.procedure.Called.{Called}
 use Rattle.procedures.specs.declared.procedure.Called.the-variants as calls
 use Rattle.procedures.specs.declared.procedure.Procedure as code
 use Rattle.procedures.specs.declared.procedure.Procedure.the-variants as procedure
-use Rattle.promises.specs.Images.{kindAt, windowAt, lastAt, BodyRules, InWindow}
+use Rattle.promises.specs.Images.{kindAt, lastAt, BodyRules}
 use Rattle.promises.proofs.Answers.{accepting}
 use Rattle.promises.proofs.Fields.{kind-at, window-at}
 use Rattle.promises.proofs.Valids.{between-tested}
-use Rattle.command_promises.specs.Rows.{Row, IsChannel, StartValue, StartSize, startRow, stopRow, rekeyRow, expireRow, setNumberRow}
+use Rattle.command_promises.specs.Rows.{Row, IsChannel, startRow, stopRow, rekeyRow, expireRow, setNumberRow}
 use Rattle.command_promises.specs.Rows.{setWindowRow, statusRow, readNumberRow, pingRow, noRow, rowOf}
 use Rattle.command_promises.proofs.Channels.{names-channel, channel-named}
 use Rattle.command_promises.proofs.Shifted.{shifted}

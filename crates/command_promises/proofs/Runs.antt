@@ -18,7 +18,7 @@ use Rattle.command_promises.specs.Runs.{Step, call, command, commandCut,
 use Rattle.command_promises.specs.Runs.{SentAfter, SentRise, ReleasedAfter, ReleasedRise, sentIn, releasedIn, Runs}
 use Rattle.command_promises.proofs.Effects.{Effect, quiet, loads, sends, frees, raises, raisesCut, effect}
 use Rattle.command_promises.proofs.Keeps.{Spoken, Keeps, keeps}
-use Rattle.command_promises.proofs.Unmanaged.{Same, same-refl, same-then, count-same, direction-same}
+use Rattle.command_promises.proofs.Unmanaged.{Same, same-itself, same-then, count-same, direction-same}
 
 -- ---- from a state to the next
 
@@ -240,7 +240,7 @@ released-once (numbered ∷ r) a = released-once r a
 
 ran-keeps : (vs : List Step) (x : State) → OfOctets vs → Inv x → Keeps x (ran x vs)
 unfolding ran
-ran-keeps [] x o inv = record { inv = inv; stays = refl; same = same-refl (x .image) }
+ran-keeps [] x o inv = record { inv = inv; stays = refl; same = same-itself (x .image) }
 ran-keeps (v ∷ vs) x o inv =
     let k = keeps x v (first-spoken v vs o) inv in
     let m = ran-keeps vs (after x v) (rest-spoken v vs o) (k .inv) in
@@ -258,7 +258,7 @@ runs image numbers steps octets o =
     let x : State = kept (loaded image numbers) in
     let inv = load-inv image numbers octets in
     let k = ran-keeps steps x o inv in
-    let first : Same image (x .image) = rw (loaded-image image numbers) (same-refl image) in
+    let first : Same image (x .image) = rw (loaded-image image numbers) (same-itself image) in
     let all : Same image (ran x steps .image) = same-then image (x .image) first (ran x steps .image) (k .same) in
     let here : (e : ℕ) → e < countIn image → e < countIn (x .image) = λ e h. rw (loaded-image image numbers) h in
     let sending : (e : ℕ) → e < countIn image → SentRise (trace e x steps) = λ e h. sent-rise e steps x o inv (here e h) in

@@ -3,7 +3,6 @@
 use Prim.Native.Nat.{ℕ, _+_}
 use mathlib.Core.Path.{_≡_, ap}
 use mathlib.Core.List.{List}
-use lib.ListN.{drop}
 use lib.Seq.{drop-drop}
 use Rattle.octets.specs.Numbers.{number, numberAt}
 use Rattle.command_form.specs.Form.{frontLength, valueOf}

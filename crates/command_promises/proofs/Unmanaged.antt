@@ -24,8 +24,8 @@ pub record Same (before image : List ℕ) : Type 0 where
   pub size : length image ≡ length before
   pub elsewhere : (p : ℕ) → Unmanaged before p → octet image p ≡ octet before p
 
-pub same-refl : (image : List ℕ) → Same image image
-same-refl image = record { size = refl; elsewhere = λ p u. refl }
+pub same-itself : (image : List ℕ) → Same image image
+same-itself image = record { size = refl; elsewhere = λ p u. refl }
 
 -- images that differ in marks alone
 pub same-marks : (before image : List ℕ) → marks.Same before image → Same before image

@@ -9,9 +9,8 @@ use mathlib.Core.Bool.{cond}
 use mathlib.Core.List.{List}
 use lib.Dec.{eqb}
 use lib.ListN.{length}
-use Rattle.octets.specs.Lists.{octet}
 use Rattle.octets.specs.Numbers.{numberAt}
-use Rattle.promises.specs.Images.{countIn, spiAt, kindAt, stateAt, spacecraftAt, mapAt, windowAt, lastAt, ServesChannel, InWindow}
+use Rattle.promises.specs.Images.{countIn, spiAt, kindAt, spacecraftAt, mapAt, windowAt, lastAt, ServesChannel, InWindow}
 
 pub record Row : Type 1 where
   -- the octets of the whole command

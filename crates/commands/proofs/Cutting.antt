@@ -7,7 +7,7 @@ use native.Mathlib.Omega.{arith}
 use borrow.Author.Tests.{eq-eqb, ne-eqb}
 use lib.ListN.{length, take}
 use lib.Seq.{take-nil}
-use Rattle.marks.specs.Stores.{storesOf, firstStores, stored}
+use Rattle.marks.specs.Stores.{firstStores, stored}
 use Rattle.marks.specs.declared.plans.Store.{Store}
 use Rattle.judging.specs.Replies.{Reply}
 use Rattle.judging.specs.Verdicts.{judgement, Grants, Refuses}

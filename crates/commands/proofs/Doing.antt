@@ -1,7 +1,7 @@
 -- What holds of each procedure where it may be carried out at an entry: after any of its stores the image is managed, there are at most 16
 -- of them, and once all are made the numbers agree again. Only set number touches the mark and the number, and it raises both.
 -- Assumes nothing.
-use mathlib.Core.Path.{_≡_, refl, sym, ap, _∙_}
+use mathlib.Core.Path.{_≡_, refl}
 use mathlib.Core.Logic.{_≢_}
 use mathlib.Core.Bool.{true, false}
 use mathlib.Core.List.{List, [], _∷_}

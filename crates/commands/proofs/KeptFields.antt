@@ -13,7 +13,7 @@ use lib.ListN.{length}
 use Rattle.octets.specs.Lists.{octet, all}
 use Rattle.octets.proofs.Alls.{and-left, and-right, all-at, all-every}
 use Rattle.octets.proofs.Numbers.{numberAt-same}
-use Rattle.octets.proofs.Outside.{Outside, Changed}
+use Rattle.octets.proofs.Outside.{Outside}
 use Rattle.octets.proofs.Parts.{part-same}
 use Rattle.kinds.specs.Kinds.{named}
 use Rattle.kinds.specs.declared.kinds.Named.{Named}

@@ -14,7 +14,7 @@ use Rattle.frame.specs.Parts.{macStart, trailerStart, securedParts, securityOf,
 use Rattle.frame.specs.declared.parts.SecuredParts.{SecuredParts}
 use Rattle.association.specs.declared.held.Held.{Held}
 use Rattle.services.specs.SecurityHeader.{securityLength}
-use Rattle.protection.specs.Protection.{fieldIn, textIn, clearLength}
+use Rattle.protection.specs.Protection.{textIn, clearLength}
 use Rattle.opening.specs.Steps.{Opens}
 use Rattle.opening.specs.declared.checked.Opening.{Opening}
 use Rattle.protection.proofs.Slices.{slice-as-part}

@@ -1,7 +1,7 @@
 -- The octets of a reply, and an output to which no reply is written.
 -- Assumes nothing.
 use Prim.Native.Nat.{ℕ, _/_, _%_, _^_, _<_}
-use mathlib.Core.Path.{_≡_, refl, sym, ap, _∙_}
+use mathlib.Core.Path.{_≡_, sym, ap, _∙_}
 use mathlib.Core.List.{List, [], _++_}
 use native.Mathlib.Nat.{div-one, zero-add}
 use native.Mathlib.Omega.{arith}

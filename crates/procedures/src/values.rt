@@ -12,12 +12,11 @@ use octets::two_at;
 use security_header::number_in;
 use verdicts::accepts;
 ghost use mathlib.Core.Path.{_≡_};
-ghost use mathlib.Core.Bool.{_&&_};
 ghost use mathlib.Core.List.{[]};
 ghost use lib.Dec.{eqb};
 ghost use Rattle.image.specs.Image.{versionOf, bodyOf};
 ghost use Rattle.command_form.specs.Form.{numberBehindKey};
-ghost use Rattle.procedures.specs.Procedures.{start, rekey, setNumber, procedureIs};
+ghost use Rattle.procedures.specs.Procedures.{start, setNumber, procedureIs};
 ghost use Rattle.procedures.specs.Steps.{Renumbered};
 
 // The service whose security header has its number in twelve octets behind the SPI, as a set number has it.

@@ -14,7 +14,6 @@ use writing::put_text;
 ghost use mathlib.Core.Path.{_≡_};
 ghost use Prim.Native.Nat.{_+_, _≤_};
 ghost use lib.ListN.{length};
-ghost use Rattle.image.specs.Image.{countOf};
 ghost use Rattle.writing.specs.Output.{Put};
 ghost use Rattle.salvage_image.specs.KeptOf.{KeptOf};
 ghost use Rattle.salvage_lines.specs.Lines.{lineAbout, stays, lineOf, newLines, salvageLines};

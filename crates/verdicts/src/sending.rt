@@ -8,7 +8,6 @@ use judging::Verdict;
 use kinds::Framing;
 use numbers::plan_for;
 use security_header::security_length;
-ghost use mathlib.Core.Path.{_≡_};
 ghost use Rattle.kinds.specs.Kinds.{framed};
 ghost use Rattle.judging.specs.Verdicts.{Judged, sendingJudged};
 

@@ -1,10 +1,9 @@
 -- `channels_right` is right because each turn joins the test of one channel more to those before it.
 -- Assumes nothing.
-use mathlib.Core.Path.{_≡_, refl, sym}
-use Prim.Native.Nat.{_-_, _*_, _≤_}
+use mathlib.Core.Path.{_≡_, refl}
+use Prim.Native.Nat.{_-_, _≤_}
 use native.Mathlib.Numerals.{add-one}
 use native.Mathlib.Omega.{arith}
-use lib.ListN.{length}
 use Rattle.octets.specs.Lists.{all}
 use Rattle.kinds.specs.Kinds.{named}
 use Rattle.bodies.specs.Body.{bodyIn, kindIn}

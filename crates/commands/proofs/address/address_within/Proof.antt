@@ -1,6 +1,6 @@
 -- `address_within` is right because a command that calls no procedure is answered by 13, and one whose entry the table has not by 14.
 -- Assumes nothing.
-use mathlib.Core.Path.{refl, sym, ap, _∙_}
+use mathlib.Core.Path.{refl, sym, _∙_}
 use native.Mathlib.Omega.{arith}
 use Rattle.judging.specs.declared.answers.Answer.the-variants as answer
 use Rattle.judging.proofs.Admitting.{refuses}
