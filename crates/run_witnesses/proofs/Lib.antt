@@ -1,2 +1,3 @@
 pub mod Sendings
 pub mod Releases
+pub mod Managings

@@ -1,1 +1,2 @@
-// What shows that runs send and release, and meet the bound on stores: theorems by computing in proofs/, and no code.
+// What shows that runs send and release, meet the bound on stores, and send on through management commands: theorems by computing in proofs/,
+// and no code.
