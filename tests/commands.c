@@ -208,7 +208,7 @@ static bool has_form(unsigned tag, size_t value)
     case TAG_START: return value >= 6 && value % 4 == 2;
     case TAG_REKEY: return value == 16;
     case TAG_SET_NUMBER: return value == 14;
-    case TAG_SET_WINDOW: return value == 4;
+    case TAG_SET_WINDOW: case TAG_INVENTORY: return value == 4;
     case TAG_PING: return value == 0;
     default: return index_of_tag(tag) < TAG_COUNT && value == 2;
     }
@@ -291,8 +291,8 @@ static void try_way_through(void)
     put_spi_alone(&input, TAG_STOP, 9), ask(&input, 15);
     put_spi_alone(&input, TAG_EXPIRE, 9), ask(&input, 0);
     put_start(&input, 9, 0x6C5), ask(&input, 15);
-    put_rekey(&input, 9), ask(&input, 0);
-    put_rekey(&input, 9), ask(&input, 15);
+    put_rekey(&input, 9, 0), ask(&input, 0);
+    put_rekey(&input, 9, 0), ask(&input, 15);
     put_start(&input, 9, 0x6C5), ask(&input, 0);
     expect(memcmp(input.image, image, input.image_length) == 0 && input.numbers[0] == 700, "the way through all states changed something");
     put_set_number(&input, 9, 1000), ask(&input, 0);
@@ -338,7 +338,11 @@ static size_t lay_out_by_header(unsigned tag, unsigned spi, uint32_t value, uint
 {
     switch (tag) {
     case TAG_START: return xistalvo_make_start((uint16_t)spi, &value, 1, command, room);
-    case TAG_REKEY: return xistalvo_make_rekey((uint16_t)spi, command, room);
+    case TAG_REKEY:
+        return value % 2 == 0 ? xistalvo_make_rekey((uint16_t)spi, command, room)
+                              : xistalvo_make_rekey_to((uint16_t)spi, (uint16_t)value, command, room);
+    case TAG_ACTIVATION: case TAG_DEACTIVATION: return xistalvo_make_key_alone((uint8_t)tag, (uint16_t)value, command, room);
+    case TAG_INVENTORY: return xistalvo_make_inventory((uint16_t)(value >> 16), (uint16_t)value, command, room);
     case TAG_SET_NUMBER: return xistalvo_make_set_number((uint16_t)spi, value, command, room);
     case TAG_SET_WINDOW: return xistalvo_make_set_window((uint16_t)spi, (uint16_t)value, command, room);
     case TAG_PING: return xistalvo_make_ping(command, room);
@@ -350,12 +354,30 @@ static void lay_out_by_test(struct input *input, unsigned tag, unsigned spi, uin
 {
     switch (tag) {
     case TAG_START: put_start(input, spi, value); break;
-    case TAG_REKEY: put_rekey(input, spi); break;
+    case TAG_REKEY: put_rekey(input, spi, value % 2 == 0 ? 0 : value & 0xFFFF); break;
+    case TAG_ACTIVATION: case TAG_DEACTIVATION: put_spi_alone(input, tag, value & 0xFFFF); break;
+    case TAG_INVENTORY: put_inventory(input, value >> 16, value & 0xFFFF); break;
     case TAG_SET_NUMBER: put_set_number(input, spi, value); break;
     case TAG_SET_WINDOW: put_set_window(input, spi, value & 0xFFFF); break;
     case TAG_PING: put_command(input, tag, NULL, 0); break;
     default: put_spi_alone(input, tag, spi); break;
     }
+}
+
+/* The keys of a table from one ID to another, beside what the header reads from a reply. */
+static void try_inventory(const uint8_t *reply, const struct table *table, uint32_t first, uint32_t last)
+{
+    size_t listed = 0;
+    for (size_t i = 0; i < table->key_count; i++) {
+        const struct key *key = &table->keys[i];
+        if (first <= key->id && key->id <= last) {
+            expect(listed < xistalvo_keys_in(reply) && xistalvo_key_id_in(reply, listed) == key->id
+                       && xistalvo_key_state_in(reply, listed) == key->state,
+                   "a key is misread, or not listed");
+            listed++;
+        }
+    }
+    expect(listed == xistalvo_keys_in(reply), "keys are listed that are not asked for");
 }
 
 static void try_reply(const struct input *input, unsigned tag, size_t length, const struct association *association, uint32_t last)
@@ -385,6 +407,9 @@ static void try_header(struct options options, uint64_t number)
     const struct association *association = &table.entries[0];
     unsigned tag = every_tag[random_below(&test_random, TAG_COUNT)];
     uint32_t value = (uint32_t)random_any(&test_random);
+    if (tag == TAG_INVENTORY && random_percent(&test_random, 50)) {
+        value &= 0xFFFF; /* from ID 0 on */
+    }
     if (tag == TAG_START) {
         unsigned channel = any_channel(&test_random, association);
         value = xistalvo_channel_name((uint8_t)association->kind, (uint16_t)association->spacecraft, (uint8_t)channel, (uint8_t)association->map);
@@ -404,6 +429,9 @@ static void try_header(struct options options, uint64_t number)
     struct outcome outcome = run(&input);
     expect(outcome.answer != 13 && outcome.answer != 14, "what the header lays out has a wrong form");
     try_reply(&input, tag, outcome.length, association, last);
+    if (tag == TAG_INVENTORY) {
+        try_inventory(input.output, &table, value >> 16, value & 0xFFFF);
+    }
 }
 
 int main(int argument_count, char **arguments)
