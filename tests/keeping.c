@@ -238,11 +238,10 @@ static void manage_key(struct link *link, unsigned end, struct kept *kept, uint8
     manage(link, end, kept, command, xistalvo_make_key_alone(tag, id, command, sizeof command), answer);
 }
 
-/* To any active key. All have the same octets, so that the ends need not change together. */
-static void rekey_association(struct link *link, unsigned end, struct kept *kept)
+/* To a key that is active. All have the same octets, so that the ends need not change together. */
+static void rekey_association(struct link *link, unsigned end, struct kept *kept, size_t j)
 {
     uint8_t command[32];
-    size_t j = any_key(link, end, kept, XISTALVO_KEY_ACTIVE, 0);
     manage(link, end, kept, command, xistalvo_make_rekey_to(SPI, id_of(j), command, sizeof command), XISTALVO_DONE);
 }
 
@@ -264,21 +263,24 @@ static void reopen(struct link *link, unsigned end, struct kept *kept)
         if (state == XISTALVO_KEYED) {
             expire(link, end, kept);
         }
-        rekey_association(link, end, kept);
+        rekey_association(link, end, kept, any_key(link, end, kept, XISTALVO_KEY_ACTIVE, 0));
     }
     set_window(link, end, kept);
     start_association(link, end, kept);
 }
 
-/* A new key is activated, the association goes over to one, and the one that it used is given up, which it cannot be before. */
+/* A new key is activated, the association goes over to it or to another, and the one that it used is given up, which it cannot be before. */
 static void change_key(struct link *link, unsigned end, struct kept *kept, uint16_t old)
 {
     size_t next = any_key(link, end, kept, XISTALVO_KEY_PRE_ACTIVE, old);
     if (next != NO_KEY) {
         manage_key(link, end, kept, XISTALVO_TAG_ACTIVATION, id_of(next), XISTALVO_DONE);
     }
+    if (next == NO_KEY || random_percent(&watch.random, 30)) {
+        next = any_key(link, end, kept, XISTALVO_KEY_ACTIVE, 0);
+    }
     expire(link, end, kept);
-    rekey_association(link, end, kept);
+    rekey_association(link, end, kept, next);
     if (id_named(link, end, kept) != old && random_percent(&watch.random, 50)) {
         manage_key(link, end, kept, XISTALVO_TAG_DEACTIVATION, old, XISTALVO_DONE);
     }
