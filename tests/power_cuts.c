@@ -368,10 +368,10 @@ static void prepare_command(struct run *run, size_t side, size_t entry, struct a
     association_of(run, side, entry, association);
     input_of_end(input, CALL_COMMAND, &run->world.ends[side]);
     uint32_t chance = random_below(&run->random, 100);
-    if (association->state != 2 && chance < (association->state == 0 ? 75 : 55)) {
+    if (association->state != 2 && chance < (association->state == 0 ? 65 : 45)) {
         prepare_way_back(run, side, entry, association);
-    } else if (association->state != 2 && chance < 80) {
-        make_command(&run->random, input, chance < 72 ? TAG_EXPIRE : TAG_SET_WINDOW, association, input->numbers[entry]);
+    } else if (association->state != 2 && chance < 88) {
+        make_command(&run->random, input, chance < 60 ? TAG_EXPIRE : TAG_SET_WINDOW, association, input->numbers[entry]);
     } else if (association->state == 2 && chance < 6) {
         make_command(&run->random, input, TAG_STOP, association, input->numbers[entry]);
     } else {
