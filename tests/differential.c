@@ -695,7 +695,8 @@ static void see_keys(struct run *run, const struct input *input)
     for (size_t i = 0; i < table.count; i++) {
         is_stray = is_stray || find_key(&table, table.entries[i].key_id) == table.key_count;
         for (size_t j = 0; j < i; j++) {
-            is_shared = is_shared || (table.entries[i].state == 2 && table.entries[j].state == 2 && table.entries[i].key_id == table.entries[j].key_id);
+            bool are_serving = table.entries[i].state == 2 && table.entries[j].state == 2;
+            is_shared = is_shared || (are_serving && table.entries[i].key_id == table.entries[j].key_id);
         }
     }
     run->key_sights[NO_KEYS] += table.key_count == 0;

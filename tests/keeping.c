@@ -89,7 +89,8 @@ enum way { IN_FILE, BEHIND_DRIVER, LENT_ITSELF, WAYS };
 static const char *const paths[] = {"sender", "receiver"}; /* in a folder of the test's own */
 static const char *const way_names[] = {"a file", "memory behind a driver", "memory lent itself"};
 
-enum { KEYS = 64, NO_KEY = KEYS, MOST_LENGTH = XISTALVO_IMAGE_LENGTH_3(1, KEYS), SPI = 9, MOST_FRAMES = 200, DATA_LENGTH = 8, FRAME_LENGTH = 5 + DATA_LENGTH + 22, RUNS_OF_LINK = 10 };
+enum { KEYS = 64, NO_KEY = KEYS };
+enum { MOST_LENGTH = XISTALVO_IMAGE_LENGTH_3(1, KEYS), SPI = 9, MOST_FRAMES = 200, DATA_LENGTH = 8, FRAME_LENGTH = 5 + DATA_LENGTH + 22, RUNS_OF_LINK = 10 };
 
 struct frame {
     uint8_t octets[FRAME_LENGTH];

@@ -148,7 +148,8 @@ static void try_every_count(void)
             table.count = counts[c];
             table.key_count = keys > MOST_KEYS ? MOST_KEYS : keys;
             for (size_t i = 0; i < table.count; i++) {
-                struct association entry = {(unsigned)i + 1, 2, 1, 1, keys == 0 ? 1 : 2, 27, 5, false, 0, 100, {0}, true, 1000 * (unsigned)(keys / 2), {0}, 7};
+                struct association entry = {(unsigned)i + 1, 2, 1, 1, keys == 0 ? 1 : 2, 27, 5, false, 0, 100, {0}, true, 0, {0}, 7};
+                entry.key_id = 1000 * (unsigned)(keys / 2);
                 table.entries[i] = entry;
             }
             for (size_t j = 0; j < table.key_count; j++) {
@@ -284,7 +285,8 @@ static void lay_out_pair(struct input *input, unsigned state, unsigned window, u
     struct association second = {20, 1, 1, 2, other_state, 27, 6, false, 0, 100, {0}, true, other_key, {0}, 0};
     table.entries[0] = first;
     table.entries[1] = second;
-    const struct key keys[] = {{0x0001, ACTIVE, {1}}, {0x0102, PRE_ACTIVE, {2}}, {0x0201, key_state, {3}}, {0x0301, DEACTIVATED, {4}}, {0xFFFF, ACTIVE, {5}}};
+    const struct key keys[] = {
+        {0x0001, ACTIVE, {1}}, {0x0102, PRE_ACTIVE, {2}}, {0x0201, key_state, {3}}, {0x0301, DEACTIVATED, {4}}, {0xFFFF, ACTIVE, {5}}};
     for (size_t i = 0; i < 5; i++) {
         if (i != 2 || key_state != NOT_THERE) {
             table.keys[table.key_count++] = keys[i];

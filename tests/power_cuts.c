@@ -8,8 +8,8 @@
  *
  * and over all associations together, of service 2: no IV goes out twice under the same key octets, however often associations are rekeyed.
  *
- * And of demand 2: what one end secures the other releases where its number is in the window, and refuses by 8 where it is not, or where the ends make
- * the IV otherwise; by 7 where the ends hold other keys; and by 4 where the association is not operational there.
+ * And of demand 2: what one end secures the other releases where its number is in the window, and refuses by 8 where it is not, or where the
+ * ends make the IV otherwise; by 7 where the ends hold other keys; and by 4 where the association is not operational there.
  *
  *   power_cuts [--seed S] [--count N] [--from W]
  *

@@ -354,8 +354,8 @@ int main(int argument_count, char **arguments)
         try_one(options, options.from + i, &totals);
     }
     printf("stores: seed %" PRIu64 ", %" PRIu64 " calls, %" PRIu64 " done and %" PRIu64 " refused; %" PRIu64 " stores, %" PRIu64
-           " of them seen singly, those of %" PRIu64 " rekeys among them; every image between two instructions was that of a cut, and no output came before "
-           "the last store\n",
+           " of them seen singly, those of %" PRIu64 " rekeys among them; every image between two instructions was that of a cut, and no output "
+           "came before the last store\n",
            options.seed, totals.calls, totals.done, totals.refused, totals.stores, totals.states, totals.thirds);
     if (options.count >= ENOUGH_FOR_EVERY_COMMAND && !commands_are_enough(&totals)) {
         puts("stores: too few commands were watched");

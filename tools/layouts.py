@@ -294,7 +294,7 @@ def secured(service):
     p.note(p.bottom + 14, "In TM a secondary header is the end of the header: it is copied, and covered as it is, since the mask has 6 octets.")
     p.note(p.bottom + 14, "Widths are not to scale.")
     if service == 2:
-        p.note(p.bottom + 14, "Below version 3 of the image the IV is the number, big-endian in 12 octets, and what is sent has 0 in the first 8 of them.")
+        p.note(p.bottom + 14, "Below version 3 of the image the IV is the number, big-endian in 12 octets; what is sent has 0 in the first 8.")
         p.note(p.bottom + 14, "In version 3 the first 8 are the SPI, in 4 octets, and 4 zero octets.")
     return p
 
@@ -434,7 +434,7 @@ def body():
 def image_keys():
     p = Picture("image-keys", "The image, version 3: contents, bodies, and keys in one place")
     heading(p, p.title, "k entries, 0 to 32, and q keys, 0 to 64. Numbers are big-endian. Widths are not to scale.")
-    y, rows = 112, []
+    y = 112
     contents = [
         (62, SORT, ["version", "3", "1 octet"], "0"),
         (58, LENGTH, ["count", "k", "1 octet"], "1"),
@@ -459,7 +459,8 @@ def image_keys():
     ]
     p.text(LEFT, y - 30, "place of the octet in the image", 12, "start", colour=SOFT)
     middles = {}
-    rows = [("contents", [(*part, None) for part in contents], "6+4k", y), ("bodies", bodies, "6+26k", y + 150), ("key part", keys, "7+26k+35q: the end", y + 300)]
+    rows = [("contents", [(*part, None) for part in contents], "6+4k", y), ("bodies", bodies, "6+26k", y + 150)]
+    rows += [("key part", keys, "7+26k+35q: the end", y + 300)]
     for label, parts, end, top in rows:
         x = LEFT
         p.text(LEFT - 10, top + 37, label, 12.5, "end", "bold")
@@ -556,8 +557,9 @@ def key_states():
     for x1, x2, words in ((24 + wide, 384, "activation"), (384 + wide, 744, "deactivation")):
         p.arrow([(x1, y + 38), (x2 - 1, y + 38)])
         p.text((x1 + x2) / 2, y + 30, words, 14, weight="bold")
-    p.note(y + high + 26, "There is no way back. From another state a command is answered by 18, and so is a deactivation while an operational association", 24)
-    p.note(y + high + 44, "names the key. Rekey and start need an active key: 17 where there is none of that ID, 18 where it is in another state.", 24)
+    p.note(y + high + 26, "There is no way back. From another state a command is answered by 18, and so is a deactivation", 24)
+    p.note(y + high + 44, "while an operational association names the key. Rekey and start need an active key: 17 where there is", 24)
+    p.note(y + high + 62, "none of that ID, 18 where it is in another state.", 24)
     return p
 
 
@@ -710,8 +712,9 @@ def states():
         p.text((x1 + x2) / 2, y + 71, back, 14, weight="bold")
     p.bracket(24, 574, y + high + 14, ["set window: where no frame is served"])
     p.bracket(24, 934, y + high + 58, ["set number, status, read number: in every state"])
-    p.note(y + high + 112, "From another state than the one that its arrow leaves, a command is answered by 15. The number stays, and below version 3", 24)
-    p.note(y + high + 130, "the key too. In version 3 rekey names the key that is used from then on, and rekey and start need it active (17, 18).", 24)
+    p.note(y + high + 112, "From another state than the one that its arrow leaves, a command is answered by 15. The number stays,", 24)
+    p.note(y + high + 130, "and below version 3 the key too. In version 3 rekey names the key that is used from then on,", 24)
+    p.note(y + high + 148, "and rekey and start need it active (17, 18).", 24)
     return p
 
 

@@ -1545,8 +1545,8 @@ def key_images(run):
         run.manage(tlv(PING), 1)
     run.case("0, 1, 2 and 64 keys; IDs 0 and 65,535; 32 entries and 64 keys, 3,079 octets, and one octet more")
     for k, q in ((0, 1), (0, 64), (1, 1), (1, 2), (2, 64)):
-        keys = [Key(65535 - 1040 * j if j else 65535) for j in reversed(range(q))]
-        run.fresh(*(replace(SHARING, spi=9 + i, key_id=65535) for i in range(k)), keys=keys) if k else run.image(image_of(keys=keys, version=3))
+        keys = [Key(65535 - 1040 * j) for j in reversed(range(q))]
+        run.image(image_of(*(replace(SHARING, spi=9 + i, key_id=65535) for i in range(k)), keys=keys, version=3))
         run.load()
     run.fresh(replace(SHARING, key_id=0), keys=[Key(0)])
     run.fresh(replace(SHARING, state=1), keys=[])
@@ -1719,7 +1719,8 @@ def key_use(run):
     for place in (0, 1, 2, 31):
         for state in (0, 1, 2):
             k = max(3, place + 1)
-            entries = [replace(SHARING, spi=9 + i, direction=1 + i % 2, state=state if i == place else 2, key_id=263 if i == place else 7) for i in range(k)]
+            entries = [replace(SHARING, spi=9 + i, direction=1 + i % 2) for i in range(k)]
+            entries[place] = replace(entries[place], state=state, key_id=263)
             run.fresh(*entries, keys=[Key(7), Key(263)])
             run.manage(tlv(DEACTIVATION, two(263)), 18 if state == 2 else 0)
             run.manage(tlv(DEACTIVATION, two(7)), 18)

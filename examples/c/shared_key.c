@@ -45,7 +45,8 @@ static void bring_to_version_3(struct end *end)
 {
     struct xistalvo_association cameras[COUNT];
     static const uint16_t key_ids[COUNT] = {OLD_KEY, OTHER_OLD_KEY};
-    struct xistalvo_key keys[KEYS] = {{OLD_KEY, XISTALVO_KEY_ACTIVE, {0}}, {OTHER_OLD_KEY, XISTALVO_KEY_ACTIVE, {0}}, {NEW_KEY, XISTALVO_KEY_PRE_ACTIVE, {9}}};
+    struct xistalvo_key keys[KEYS] = {
+        {OLD_KEY, XISTALVO_KEY_ACTIVE, {0}}, {OTHER_OLD_KEY, XISTALVO_KEY_ACTIVE, {0}}, {NEW_KEY, XISTALVO_KEY_PRE_ACTIVE, {9}}};
     for (size_t i = 0; i < COUNT; i++) {
         xistalvo_read_association(end->image, i, &cameras[i]);
         memcpy(keys[i].octets, cameras[i].key, sizeof keys[i].octets);
@@ -57,7 +58,8 @@ static void command(struct end *end, const char *what, const uint8_t *octets, si
 {
     uint8_t reply[XISTALVO_LARGEST_REPLY];
     uint64_t result = xistalvo_command(end->image, end->length, end->numbers, XISTALVO_NUMBERS, octets, length, reply, sizeof reply);
-    printf("%s: %s: %u, %s; stores %u", end->name, what, XISTALVO_ANSWER(result), xistalvo_answer_name(XISTALVO_ANSWER(result)), XISTALVO_STORES(result));
+    printf("%s: %s: %u, %s; stores %u", end->name, what, XISTALVO_ANSWER(result), xistalvo_answer_name(XISTALVO_ANSWER(result)),
+           XISTALVO_STORES(result));
     if (xistalvo_is_reply(XISTALVO_TAG_INVENTORY, reply, XISTALVO_LENGTH(result))) {
         for (size_t i = 0; i < xistalvo_keys_in(reply); i++) {
             printf("%s key %u in state %u", i == 0 ? ";" : ",", xistalvo_key_id_in(reply, i), xistalvo_key_state_in(reply, i));
