@@ -1,6 +1,7 @@
 /* Management commands (document 02, request 5) through the C interface, with figures of its own: the sentences of the request as a table; every
  * tag with every length; every step of set number and every window, around all limits; a way through all states; the longest start. Each call is
  * also compared with the independent reading (support/both.h). And what include/xistalvo_command.h lays out and reads, beside the tests' own.
+ * Keys and their commands have more in keys.c.
  *
  *   commands [--seed S] [--count N] [--from W] */
 #include "../include/xistalvo_command.h"
@@ -59,10 +60,12 @@ static void lay_out(const struct setting *setting, struct input *input)
     entry->direction = setting->direction;
     entry->state = setting->state;
     entry->spacecraft = 27;
-    entry->channel = setting->version == 2 && setting->kind == 3 ? 0x22 : 5; /* the set of channels 1 and 5 */
+    entry->channel = setting->version >= 2 && setting->kind == 3 ? 0x22 : 5; /* the set of channels 1 and 5 */
     entry->map = setting->kind == 2 ? 9 : 0;
     entry->window = setting->window;
     entry->mark = setting->last / 64;
+    table.key_count = setting->version == 3 ? 1 : 0; /* with ID 0, which the association names */
+    table.keys[0].state = ACTIVE;
     input->which = CALL_COMMAND;
     input->image_length = write_image(&table, input->image);
     input->numbers_length = NUMBER_COUNT;
@@ -214,13 +217,13 @@ static bool has_form(unsigned tag, size_t value)
     }
 }
 
-static void try_every_form(void)
+static void try_every_form(unsigned version)
 {
     static struct input input;
     for (unsigned tag = 0; tag < 256; tag++) {
         for (size_t length = 0; length <= LONGEST_TRIED; length++) {
             for (size_t field = length < 4 ? 0 : length - 4; field <= length; field++) {
-                const struct setting setting = {1, 1, 1, tag % 3, 100, 63};
+                const struct setting setting = {version, 1, 1, tag % 3, 100, 63};
                 lay_out(&setting, &input);
                 input.frame_length = length;
                 input.frame[0] = (uint8_t)tag;
@@ -444,7 +447,8 @@ int main(int argument_count, char **arguments)
         judge_case(i);
     }
     try_way_through();
-    try_every_form();
+    try_every_form(1);
+    try_every_form(3);
     try_every_step();
     for (unsigned window = 0; window <= 65535; window += window < 1100 || window >= 65500 ? 1 : 50) {
         try_window(window);
