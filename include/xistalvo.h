@@ -206,7 +206,8 @@ uint64_t xistalvo_load(const uint8_t *image, size_t image_length, uint32_t *numb
  * header, for TC with its length field rewritten, for TM with its secondary header if it has one; the SPI and n, in 4 octets (service 1) or
  * 12 (service 2; in version 3 these begin with the SPI once more, in 4 octets); the data, encrypted by service 2; the MAC, 16 octets; the OCF
  * if the frame has one; and where the clear frame ends in a check field, a new one over all of that, headers included. The length is that of
- * the secured frame: 22 more than the clear frame's (service 1) or 30 more (service 2). numbers[i] becomes n. The rest of the output, the rest of the image and the other numbers stay.
+ * the secured frame: 22 more than the clear frame's (service 1) or 30 more (service 2). numbers[i] becomes n. The rest of the output, the
+ * rest of the image and the other numbers stay.
  * Refused: image, numbers and output stay as they were. The frame is never written. */
 uint64_t xistalvo_secure(uint8_t *image, size_t image_length, uint32_t *numbers, size_t numbers_length, uint8_t kind, uint8_t check_field,
                          uint16_t spi, const uint8_t *frame, size_t frame_length, uint8_t *output, size_t output_length);
