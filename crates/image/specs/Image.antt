@@ -9,8 +9,8 @@ use lib.ListN.{length}
 use Rattle.octets.specs.Lists.{octet, part, all}
 use Rattle.octets.specs.Numbers.{numberAt}
 use Rattle.bodies.specs.Body.{bodyIn, stateOf, operational, keyIdOf, markOf, bodyOk}
-use Rattle.bodies.specs.Layout.{keyLength, mostBody, mostExtra, layoutOf, versionOk}
-use Rattle.keys.specs.Keys.{active, partSize, keyIndex, keyInState, keyUnder, keyPartOk}
+use Rattle.bodies.specs.Layout.{keyLength, mostBody, mostExtra, versionThree, layoutOf, versionOk}
+use Rattle.keys.specs.Keys.{active, mostKeys, partSize, keyIndex, keyInState, keyUnder, keyPartOk}
 use Rattle.bodies.specs.declared.layout.Layout.{Layout}
 
 -- ---- octets 0 and 1
@@ -93,6 +93,13 @@ keyOf image i =
 -- the image ends behind the key part, or behind the last body
 unfoldable pub imageSize : List ℕ → ℕ
 imageSize image = partAt image + cond (layout image .keys) (partSize (keyCount image)) 0
+
+-- the longest image of a layout, with as many entries and keys as there may be; version 3's is the longest of all
+abbrev pub longest : Layout → ℕ
+longest l = bodyPlace l mostEntries mostEntries + cond (l .keys) (partSize mostKeys) 0
+
+abbrev pub longestImage : ℕ
+longestImage = longest versionThree
 
 -- version, count, and exactly the size that they ask for
 unfoldable pub laidOut : List ℕ → Bool

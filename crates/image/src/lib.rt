@@ -2,6 +2,7 @@
 // function answers for every image: what lies past its end reads as 0.
 mod image;
 
+pub use image::LONGEST_IMAGE;
 pub use image::body_at;
 pub use image::body_place;
 pub use image::count_of;
