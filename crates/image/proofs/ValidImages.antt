@@ -86,6 +86,14 @@ pub valid-keyed : (image : List ℕ) → validImage image ≡ true → keysOk im
 unfolding validImage
 valid-keyed image e = and-right (laidOut image && all (countOf image) (ruled image)) (keysOk image) e
 
+-- each body passes the test on the key that it names
+pub valid-serving : (image : List ℕ) → validImage image ≡ true → layout image .keys ≡ true → (i : ℕ) → i < countOf image → keyedOk image i ≡ true
+unfolding keysOk
+valid-serving image e has =
+    let tests = lastOk image && keyPartOk image (partAt image) (keyCount image) in
+    let t : (tests && all (countOf image) (keyedOk image)) ≡ true = rw has at (valid-keyed image e) in
+    all-at (countOf image) (keyedOk image) (and-right tests (all (countOf image) (keyedOk image)) t)
+
 serves-keyed : (image : List ℕ) (i : ℕ) → keyedOk image i ≡ true → stateOf (bodyOf image i) ≡ operational
     → keyIn image active (keyIdIn image i) ≡ true
 serves-keyed image i e serves = rw (eq-eqb (stateOf (bodyOf image i)) operational serves) at e

@@ -88,7 +88,7 @@ pub fn mark_in(image: &[u8], index: u8) -> u32
 }
 
 // The keys. Whether they stand in a part of their own, where that part stands, and how many it has.
-fn has_part(image: &[u8]) -> bool
+pub fn has_part(image: &[u8]) -> bool
     ensures { λ r. ⌜ r ≡ layout (now (image .entry)) .keys ⌝ }
 {
     layout_of(version_of(image)).keys

@@ -6,6 +6,7 @@ pub use image::LONGEST_IMAGE;
 pub use image::body_at;
 pub use image::body_place;
 pub use image::count_of;
+pub use image::has_part;
 pub use image::image_ok;
 pub use image::key_count;
 pub use image::key_id_in;
