@@ -10,26 +10,35 @@ use lib.Dec.{ltb}
 use lib.ListN.{length}
 use Rattle.octets.specs.Output.{written, fronted}
 use Rattle.bodies.specs.Body.{stateOf}
+use Rattle.image.specs.Image.{versionOf, bodyOf}
 use Rattle.judging.specs.Answers.{first}
 use Rattle.judging.proofs.First.{passed}
 use Rattle.command_form.specs.Form.{spiNamed}
 use Rattle.procedures.specs.Procedures.{Procedure}
 use Rattle.commands.specs.Commanding.{procedureTests}
 
-pub record Accepts (p : Procedure) (version : ℕ) (body : List ℕ) (last : ℕ) (value : List ℕ) (room : ℕ) : Type 0 where
-  pub asked : p .asks (stateOf body) ≡ true
-  pub allowed : p .allows version body last value ≡ true
-  pub roomy : length (p .reply (spiNamed value) (stateOf body) last) ≤ room
+pub record Accepts (p : Procedure) (image : List ℕ) (e last : ℕ) (value : List ℕ) (room : ℕ) : Type 0 where
+  pub asked : p .asks (stateOf (bodyOf image e)) ≡ true
+  pub allowed : p .allows (versionOf image) (bodyOf image e) last value ≡ true
+  pub known : p .knows image e value ≡ true
+  pub ready : p .ready image e value ≡ true
+  pub roomy : length (p .reply (spiNamed value) (stateOf (bodyOf image e)) last) ≤ room
 
-pub accepts-all : (p : Procedure) (version : ℕ) (body : List ℕ) (last : ℕ) (value : List ℕ) (room : ℕ)
-    → first (procedureTests p version body last value room) ≡ 0 → Accepts p version body last value room
-accepts-all p version body last value room e =
-    let t15 = passed 15 (not (p .asks (stateOf body))) _ (omega arith) e in
+pub accepts-all : (p : Procedure) (image : List ℕ) (e last : ℕ) (value : List ℕ) (room : ℕ)
+    → first (procedureTests p image e last value room) ≡ 0 → Accepts p image e last value room
+accepts-all p image e last value room z =
+    let version = versionOf image in
+    let body = bodyOf image e in
+    let t15 = passed 15 (not (p .asks (stateOf body))) _ (omega arith) z in
     let t16 = passed 16 (not (p .allows version body last value)) _ (omega arith) (t15 .1) in
-    let t6 = passed 6 (ltb room (length (p .reply (spiNamed value) (stateOf body) last))) _ (omega arith) (t16 .1) in
+    let t17 = passed 17 (not (p .knows image e value)) _ (omega arith) (t16 .1) in
+    let t18 = passed 18 (not (p .ready image e value)) _ (omega arith) (t17 .1) in
+    let t6 = passed 6 (ltb room (length (p .reply (spiNamed value) (stateOf body) last))) _ (omega arith) (t18 .1) in
     record {
       asked = not-false (p .asks (stateOf body)) (t15 .0);
       allowed = not-false (p .allows version body last value) (t16 .0);
+      known = not-false (p .knows image e value) (t17 .0);
+      ready = not-false (p .ready image e value) (t18 .0);
       roomy = ltb-false room (length (p .reply (spiNamed value) (stateOf body) last)) (t6 .0);
     }
 

@@ -21,7 +21,7 @@ use Rattle.procedures.specs.declared.procedure.Procedure as code
 use Rattle.procedures.specs.declared.procedure.Procedure.the-variants as procedure
 use Rattle.commands.specs.Commanding.{commandReply, commanded}
 use Rattle.commands.proofs.Doing.{does}
-use Rattle.commands.proofs.Done.{Done, done, Where, at, nowhere, place}
+use Rattle.commands.proofs.Done.{Done, done, Where, at, nowhere, turning, place}
 
 pub reply-short : (p : code.Procedure) (spi state last : ℕ) → length (procedureIs p .reply spi state last) ≤ 17
 unfolding bytes
@@ -34,10 +34,13 @@ reply-short procedure.SetWindow spi state last = omega arith
 reply-short procedure.Status spi state last = omega arith
 reply-short procedure.ReadNumber spi state last = omega arith
 reply-short procedure.Ping spi state last = omega arith
+reply-short procedure.Activation spi state last = omega arith
+reply-short procedure.Deactivation spi state last = omega arith
 
 few : (image last command : List ℕ) (q : Reply) → Where image last command q → length (q .stores) ≤ 16
-few image last command q (at p i calls listed spi ready is) = rw is (does p image last i _ ready .few)
+few image last command q (at p i calls names listed spi ready is) = rw is (does p image last i _ names ready .few)
 few image last command q (nowhere none same) = rw none (omega arith)
+few image last command q (turning id state one turns same) = rw one (omega arith)
 
 pub commanded-small : (image last command output : List ℕ) → Octets image → Octets command → length last ≡ 32
     → Small (commanded image last command output)

@@ -48,16 +48,18 @@ addressTests image last command =
     ∷ (14, isNothing (entryNamed (procedureOf command) image (valueOf command)))
     ∷ []
 
--- under an entry's body, read by the image's version, and its last number, with that much room in the output
-abbrev pub procedureTests : Procedure → ℕ → List ℕ → ℕ → List ℕ → ℕ → List Test
-procedureTests p version body last value room =
-    (15, not (p .asks (stateOf body)))
-    ∷ (16, not (p .allows version body last value))
-    ∷ (6, ltb room (length (p .reply (spiNamed value) (stateOf body) last)))
+-- under an entry and its last number, with that much room in the output
+abbrev pub procedureTests : Procedure → List ℕ → ℕ → ℕ → List ℕ → ℕ → List Test
+procedureTests p image e last value room =
+    (15, not (p .asks (stateOf (bodyOf image e))))
+    ∷ (16, not (p .allows (versionOf image) (bodyOf image e) last value))
+    ∷ (17, not (p .knows image e value))
+    ∷ (18, not (p .ready image e value))
+    ∷ (6, ltb room (length (p .reply (spiNamed value) (stateOf (bodyOf image e)) last)))
     ∷ []
 
 abbrev pub testsAt : Procedure → List ℕ → List ℕ → ℕ → List ℕ → ℕ → List Test
-testsAt p image last e value room = procedureTests p (versionOf image) (bodyOf image e) (numberOf last e) value room
+testsAt p image last e value room = procedureTests p image e (numberOf last e) value room
 
 -- the reply at entry e, with that answer
 abbrev pub replyAt : ℕ → Procedure → List ℕ → List ℕ → ℕ → List ℕ → Reply

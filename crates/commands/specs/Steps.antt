@@ -6,7 +6,7 @@ use mathlib.Core.Path.{_≡_}
 use mathlib.Core.List.{List}
 use lib.ListN.{length}
 use Rattle.bodies.specs.Body.{stateOf}
-use Rattle.image.specs.Image.{versionOf, bodyOf}
+use Rattle.image.specs.Image.{bodyOf}
 use Rattle.association.specs.declared.search.Found.the-variants as found
 use Rattle.judging.specs.Answers.{first}
 use Rattle.judging.specs.Replies.{Reply}
@@ -40,7 +40,7 @@ procedureJudged p image e last value room =
     let k = procedureIs p in
     let body = bodyOf image e in
     record {
-      answer = first (procedureTests k (versionOf image) body last value room);
+      answer = first (procedureTests k image e last value room);
       entry = e;
       number = k .number last value;
       stores = k .stores image e (k .number last value) value;

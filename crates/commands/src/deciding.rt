@@ -1,4 +1,4 @@
-// A command under the entry that it names, 15, 16 and 6 in the paper's order. Nothing is changed.
+// A command under the entry that it names, 15, 16, 17, 18 and 6 in the paper's order. Nothing is changed.
 use bodies::state_of;
 use image::body_at;
 use image::version_of;
@@ -7,6 +7,8 @@ use judging::Grant;
 use judging::Verdict;
 use procedures::Procedure;
 use procedures::allowed;
+use procedures::key_known;
+use procedures::key_ready;
 use procedures::new_number;
 use procedures::plan_of;
 use procedures::reply_size;
@@ -38,6 +40,12 @@ pub fn decide(
     }
     if !allowed(procedure, image, entry, last, value) {
         return Verdict::Refused(Answer::BadValue);
+    }
+    if !key_known(procedure, image, entry, value) {
+        return Verdict::Refused(Answer::UnknownKey);
+    }
+    if !key_ready(procedure, image, entry, value) {
+        return Verdict::Refused(Answer::WrongKeyState);
     }
     let size = reply_size(procedure);
     if room < size {

@@ -19,6 +19,8 @@ pub enum Procedure {
     Status,
     ReadNumber,
     Ping,
+    Activation,
+    Deactivation,
 }
 
 pub enum Called {
@@ -40,6 +42,8 @@ pub(crate) fn with_tag(tag: u8) -> Called
         0x1F => Called::Procedure(Procedure::Status),
         0x10 => Called::Procedure(Procedure::ReadNumber),
         0x31 => Called::Procedure(Procedure::Ping),
+        0x02 => Called::Procedure(Procedure::Activation),
+        0x03 => Called::Procedure(Procedure::Deactivation),
         _ => Called::Nothing,
     }
 }
@@ -73,6 +77,8 @@ impl Procedure {
             Procedure::Status => n == SPI,
             Procedure::ReadNumber => n == SPI,
             Procedure::Ping => n == 0,
+            Procedure::Activation => n == KEY_ID,
+            Procedure::Deactivation => n == KEY_ID,
         }
     }
 
@@ -89,6 +95,8 @@ impl Procedure {
             Procedure::Status => true,
             Procedure::ReadNumber => true,
             Procedure::Ping => false,
+            Procedure::Activation => false,
+            Procedure::Deactivation => false,
         }
     }
 
@@ -105,6 +113,8 @@ impl Procedure {
             Procedure::Status => true,
             Procedure::ReadNumber => true,
             Procedure::Ping => true,
+            Procedure::Activation => true,
+            Procedure::Deactivation => true,
         }
     }
 }

@@ -28,6 +28,8 @@ pub fn reply_size(procedure: Procedure) -> usize
         Procedure::Status => STATUS,
         Procedure::ReadNumber => NUMBER,
         Procedure::Ping => PING,
+        Procedure::Activation => 0,
+        Procedure::Deactivation => 0,
     }
 }
 
@@ -79,5 +81,7 @@ pub fn write_reply(procedure: Procedure, spi: u16, state: u8, last: u32, output:
         Procedure::Status => put(&status_reply(spi, state), output),
         Procedure::ReadNumber => put(&number_reply(spi, last), output),
         Procedure::Ping => put(&ping_reply(), output),
+        Procedure::Activation => {}
+        Procedure::Deactivation => {}
     }
 }

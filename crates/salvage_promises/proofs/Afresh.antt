@@ -89,7 +89,7 @@ module _ (x : List ℕ) (ok : Taken x) where
   new-count = refl
 
   new-size : length (newImage x) ≡ imageSize (newImage x)
-  unfolding newImage imageSize
+  unfolding newImage imageSize partAt
   new-size =
       let e : length (endToEnd (newCount x) (newEntry x) ++ endToEnd (newCount x) (newBody x)) ≡ newCount x * 4 + newCount x * 52 =
       length-append (endToEnd (newCount x) (newEntry x)) (endToEnd (newCount x) (newBody x)) ∙ ap₂ _+_ long-contents long-bodies

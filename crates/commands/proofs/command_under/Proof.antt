@@ -6,7 +6,6 @@ use mathlib.Core.List.{List}
 use Prim.Native.Nat.{ℕ}
 use lib.ListN.{length}
 use Rattle.octets.specs.Output.{fronted}
-use Rattle.image.specs.Image.{versionOf, bodyOf}
 use Rattle.numbers.specs.Numbers.{numberOf}
 use Rattle.judging.specs.Replies.{Reply}
 use Rattle.judging.specs.Verdicts.{judgement, Judged}
@@ -58,7 +57,7 @@ returns-2 c =
     let g = start d .args in
     let q = reply d in
     let j = subst (told d) (hit .verdict2 .given .1) (judged d) in
-    let ok = accepts-all (procedureIs (g .procedure)) (versionOf (g .image .now)) (bodyOf (g .image .now) (g .entry)) (numberOf (g .numbers .last) (g .entry)) (g .value .now) (length (g .output .now)) (j .answer) in
+    let ok = accepts-all (procedureIs (g .procedure)) (g .image .now) (g .entry) (numberOf (g .numbers .last) (g .entry)) (g .value .now) (length (g .output .now)) (j .answer) in
     let same : procedureIs (g .procedure) .reply (d .before .before .spi-named .result) (d .before .before .before .state-at .result)
     (d .before .before .before .before .before .of .result) ≡ q .result =
     same-reply (procedureIs (g .procedure)) (d .before .before .spi-named .ensures) (d .before .before .before .state-at .ensures)
