@@ -1,6 +1,7 @@
 /* Keys in one place (document 02, request 9) through the C interface, with figures of its own: images of version 3 octet by octet; the IV and its
- * prefix; the sentences on keys as a table over every state of key and association; inventories of every range; a shared key changed in one
- * place. Each call is also compared with the independent reading (support/both.h).
+ * prefix; the sentences on keys as a table over every state of key and association; inventories of every range into outputs of every length; power
+ * that fails after each store of a rekey, an activation and a deactivation; a shared key changed in one place. Each call is also compared with the
+ * independent reading (support/both.h).
  *
  *   keys [--seed S] [--count N] [--from W] */
 #include "support/both.h"
@@ -175,15 +176,15 @@ static void try_every_count(void)
 
 static const uint8_t frame_of_c[] = {0x00, 0x1B, 0x14, 0x05, 0x00, 0xAA};
 
-/* One association, SPI 0x1234, of service 2, at either end and in any version, with key 7; and key 9 of other octets. */
-static void lay_out_one(struct input *input, enum which_call which, unsigned version, unsigned service, unsigned direction)
+/* One association, of either service, at either end and in any version, with key 7; and key 9 of other octets. */
+static void lay_out_one(struct input *input, enum which_call which, unsigned version, unsigned service, unsigned direction, unsigned spi)
 {
     struct table table;
     memset(&table, 0, sizeof table);
     memset(input, 0, sizeof *input);
     table.version = version;
     table.count = 1;
-    struct association entry = {0x1234, service, 1, direction, 2, 27, 5, false, 0, 100, {255, 255, 255, 255, 255, 0}, version == 3, 7, {0}, 0};
+    struct association entry = {spi, service, 1, direction, 2, 27, 5, false, 0, 100, {255, 255, 255, 255, 255, 0}, version == 3, 7, {0}, 0};
     memset(entry.key, 0x77, KEY_LENGTH);
     table.entries[0] = entry;
     table.key_count = 2;
@@ -195,7 +196,7 @@ static void lay_out_one(struct input *input, enum which_call which, unsigned ver
     memset(table.keys[1].octets, 0x99, KEY_LENGTH);
     input->which = which;
     input->kind = 1;
-    input->spi = 0x1234;
+    input->spi = (uint16_t)spi;
     input->image_length = write_image(&table, input->image);
     input->numbers_length = NUMBER_COUNT;
     input->numbers[0] = 63;
@@ -203,22 +204,32 @@ static void lay_out_one(struct input *input, enum which_call which, unsigned ver
     memset(input->output, UNTOUCHED, ROOM);
 }
 
-/* What goes out of an image of each version begins so. */
+/* What goes out of an image of each version, under SPIs that have an octet of zeros or none, begins so. */
 static void try_sent_iv(void)
 {
-    static const char *const sent[2][4] = {
-        {"", "001B141B00 1234 00000040 AA", "001B141B00 1234 00000040 AA", "001B141B00 1234 00000040 AA"},
-        {"", "001B142300 1234 0000000000000000 00000040", "001B142300 1234 0000000000000000 00000040", "001B142300 1234 00001234 00000000 00000040"}};
+    static const struct {
+        unsigned spi;
+        const char *of_service_1, *of_service_2, *of_version_3;
+    } sent[] = {
+        {0x0001, "001B141B00 0001 00000040 AA", "001B142300 0001 0000000000000000 00000040", "001B142300 0001 00000001 00000000 00000040"},
+        {0x00FF, "001B141B00 00FF 00000040 AA", "001B142300 00FF 0000000000000000 00000040", "001B142300 00FF 000000FF 00000000 00000040"},
+        {0x0100, "001B141B00 0100 00000040 AA", "001B142300 0100 0000000000000000 00000040", "001B142300 0100 00000100 00000000 00000040"},
+        {0x1234, "001B141B00 1234 00000040 AA", "001B142300 1234 0000000000000000 00000040", "001B142300 1234 00001234 00000000 00000040"},
+        {0xFFFE, "001B141B00 FFFE 00000040 AA", "001B142300 FFFE 0000000000000000 00000040", "001B142300 FFFE 0000FFFE 00000000 00000040"},
+    };
     static struct input input;
     uint8_t expected[64];
-    for (unsigned service = 1; service <= 2; service++) {
-        for (unsigned version = 1; version <= 3; version++) {
-            lay_out_one(&input, CALL_SECURE, version, service, SENDS);
-            input.frame_length = sizeof frame_of_c;
-            memcpy(input.frame, frame_of_c, sizeof frame_of_c);
-            expect(run(&input).answer == 0, "a frame is not secured");
-            size_t length = octets_of(sent[service - 1][version], expected);
-            expect(memcmp(input.output, expected, length) == 0, "another security header goes out");
+    for (size_t i = 0; i < sizeof sent / sizeof sent[0]; i++) {
+        for (unsigned service = 1; service <= 2; service++) {
+            for (unsigned version = 1; version <= 3; version++) {
+                const char *head = service == 1 ? sent[i].of_service_1 : version < 3 ? sent[i].of_service_2 : sent[i].of_version_3;
+                lay_out_one(&input, CALL_SECURE, version, service, SENDS, sent[i].spi);
+                input.frame_length = sizeof frame_of_c;
+                memcpy(input.frame, frame_of_c, sizeof frame_of_c);
+                expect(run(&input).answer == 0, "a frame is not secured");
+                size_t length = octets_of(head, expected);
+                expect(memcmp(input.output, expected, length) == 0, "another security header goes out");
+            }
         }
     }
 }
@@ -228,7 +239,7 @@ static unsigned answer_to(unsigned version, unsigned service, const uint8_t iv[S
     static struct input input;
     struct table table;
     struct header header;
-    lay_out_one(&input, CALL_CHECK, version, service, RECEIVES);
+    lay_out_one(&input, CALL_CHECK, version, service, RECEIVES, 0x1234);
     expect(read_image(input.image, input.image_length, &table) && read_clear_frame(1, false, frame_of_c, sizeof frame_of_c, &header),
            "the test's own frame or image");
     input.frame_length = protect_frame(&table.entries[0], &header, iv, frame_of_c, sizeof frame_of_c, input.frame);
@@ -406,7 +417,7 @@ static void try_below(void)
     static struct input input;
     for (unsigned version = 1; version <= 2; version++) {
         for (unsigned id = 0; id < 70; id++) {
-            lay_out_one(&input, CALL_COMMAND, version, 2, SENDS);
+            lay_out_one(&input, CALL_COMMAND, version, 2, SENDS, 0x1234);
             put_spi_alone(&input, TAG_ACTIVATION, id);
             expect(run(&input).answer == 17, "a key is activated below version 3");
             put_spi_alone(&input, TAG_DEACTIVATION, id);
@@ -419,7 +430,7 @@ static void try_below(void)
 
 /* ---- inventories ---- */
 
-/* Every range of the IDs there are, and of those beside them, in an output that is just long enough and in one that is not. */
+/* Every range of the IDs there are, and of those beside them, into an output of each length from none to two more than the reply has. */
 static void try_inventories(void)
 {
     static const unsigned ends[] = {0, 1, 2, 0x0101, 0x0102, 0x0103, 0x0200, 0x0201, 0x0202, 0x0301, 0x0302, 0xFFFE, 0xFFFF};
@@ -439,48 +450,127 @@ static void try_inventories(void)
                 }
             }
             expected[2] = (uint8_t)(length - 3);
-            for (size_t less = 0; less < 2; less++) {
+            memset(expected + length, UNTOUCHED, 2);
+            for (size_t room = 0; room <= length + 2; room++) {
                 lay_out_pair(&input, KEYED, 100, ACTIVE, KEYED, 1);
                 put_inventory(&input, ends[a], ends[b]);
-                input.output_length = length - less;
+                input.output_length = room;
                 struct outcome outcome = run(&input);
-                expect(outcome.answer == (less == 0 ? 0 : 6) && outcome.length == (less == 0 ? length : 0) && outcome.stores == 0,
+                bool is_done = room >= length;
+                expect(outcome.answer == (is_done ? 0 : 6) && outcome.length == (is_done ? length : 0) && outcome.stores == 0,
                        "an inventory has another length, or room where there is none");
-                expect(less != 0 || memcmp(input.output, expected, length) == 0, "an inventory lists other keys");
+                expect(!is_done || memcmp(input.output, expected, room) == 0, "an inventory lists other keys, or writes behind its end");
             }
         }
     }
 }
 
-/* 64 keys: the longest reply, 197 octets. */
+/* 64 keys, from ID 0 on: the longest reply, 197 octets. */
 static void try_longest_inventory(void)
 {
     static struct input input;
     struct table table;
     memset(&table, 0, sizeof table);
-    memset(&input, 0, sizeof input);
     table.version = 3;
     table.key_count = MOST_KEYS;
     for (unsigned i = 0; i < MOST_KEYS; i++) {
         table.keys[i].id = 1023 * i + 10 * i;
         table.keys[i].state = i % 3;
     }
-    input.which = CALL_COMMAND;
-    input.image_length = write_image(&table, input.image);
-    input.numbers_length = NUMBER_COUNT;
-    put_inventory(&input, 0, 65535);
-    input.output_length = 196;
-    expect(run(&input).answer == 6, "196 octets hold an inventory of 64 keys");
-    input.output_length = 197;
-    expect(run(&input).length == 197 && input.output[2] == 194 && input.output[4] == 64, "an inventory of 64 keys has not 197 octets");
+    for (size_t room = 0; room <= 200; room++) {
+        memset(&input, 0, sizeof input);
+        input.which = CALL_COMMAND;
+        input.image_length = write_image(&table, input.image);
+        input.numbers_length = NUMBER_COUNT;
+        put_inventory(&input, 0, 65535);
+        input.output_length = room;
+        struct outcome outcome = run(&input);
+        expect(outcome.answer == (room < 197 ? 6 : 0), "196 octets hold an inventory of 64 keys, or 197 do not");
+        expect(room < 197 || (outcome.length == 197 && input.output[2] == 194 && input.output[4] == 64), "an inventory of 64 keys has not 197 octets");
+    }
 }
 
-/* ---- a shared key is changed in one place ---- */
+/* ---- the first and the last ID ---- */
 
 static void ask(struct input *input, const char *octets, unsigned answer)
 {
     expect(command(input, octets).answer == answer, octets);
 }
+
+/* IDs 0 and 65,535 are IDs as others are: activated, named by a rekey, in use, listed, given up. */
+static void try_extreme_ids(void)
+{
+    static struct input input;
+    memset(&input, 0, sizeof input);
+    input.which = CALL_LOAD;
+    input.image_length = octets_of("03 01 0009 000A FFFF 0020 02 01 01 00 001B 05 00 0064 FFFFFFFFFF00 0007 00000000"
+                                   " 02 0000 00 " KEY_OCTETS " FFFF 00 " KEY_OCTETS, input.image);
+    input.numbers_length = NUMBER_COUNT;
+    expect(run(&input).answer == 0, "an image with keys 0 and 65,535 does not load");
+    for (unsigned i = 0; i < 2; i++) {
+        ask(&input, i == 0 ? "16 0010 0009 0000 000000000000000000000000" : "16 0010 0009 FFFF 000000000000000000000000", 18);
+        ask(&input, i == 0 ? "02 0002 0000" : "02 0002 FFFF", 0);
+        ask(&input, i == 0 ? "16 0010 0009 0000 000000000000000000000000" : "16 0010 0009 FFFF 000000000000000000000000", 0);
+        ask(&input, "1B 0006 0009 000006C5", 0);
+        ask(&input, i == 0 ? "03 0002 0000" : "03 0002 FFFF", 18);
+        ask(&input, "1E 0002 0009", 0);
+        ask(&input, i == 0 ? "03 0002 0000" : "03 0002 FFFF", 0);
+        ask(&input, "1B 0006 0009 000006C5", 18);
+        ask(&input, "19 0002 0009", 0);
+    }
+    ask(&input, "07 0004 0000 FFFF", 0);
+    expect(memcmp(input.output, "\x87\x00\x08\x00\x02\x00\x00\x02\xFF\xFF\x02", 11) == 0, "keys 0 and 65,535 are not listed");
+}
+
+/* ---- power fails ---- */
+
+/* The stores of a command, in their order, as places and values; -1 ends them. What is left after the first j of them loads, and the command
+ * given again is done; after all of them it is answered as the last column says. */
+static const struct {
+    const char *name, *octets;
+    unsigned state, key_state;
+    int stores[4][2];
+    unsigned again;
+} cuts[] = {
+    {"rekey to 65,535, cut", "16 0010 0009 FFFF 000000000000000000000000", UNKEYED, ACTIVE,
+     {{AT_FIRST + 16, 0xFF}, {AT_FIRST + 17, 0xFF}, {AT_FIRST + 3, KEYED}, {-1, 0}}, 15},
+    {"rekey to 1, cut", "16 0010 0009 0001 000000000000000000000000", UNKEYED, DEACTIVATED,
+     {{AT_FIRST + 16, 0x00}, {AT_FIRST + 17, 0x01}, {AT_FIRST + 3, KEYED}, {-1, 0}}, 15},
+    {"rekey to the key that is named already, cut", "16 0010 0009 0201 000000000000000000000000", UNKEYED, ACTIVE,
+     {{AT_FIRST + 16, 0x02}, {AT_FIRST + 17, 0x01}, {AT_FIRST + 3, KEYED}, {-1, 0}}, 15},
+    {"activation, cut", "02 0002 0201", KEYED, PRE_ACTIVE, {{AT_KEYS + 35 * 2 + 2, ACTIVE}, {-1, 0}}, 18},
+    {"deactivation, cut", "03 0002 0201", KEYED, ACTIVE, {{AT_KEYS + 35 * 2 + 2, DEACTIVATED}, {-1, 0}}, 18},
+    {"deactivation of a key in use, cut", "03 0002 0201", OPERATIONAL, ACTIVE, {{-1, 0}}, 18},
+    {"start, cut", "1B 0006 0009 000006C5", KEYED, ACTIVE, {{AT_FIRST + 3, OPERATIONAL}, {-1, 0}}, 15},
+    {"start without an active key, cut", "1B 0006 0009 000006C5", KEYED, PRE_ACTIVE, {{-1, 0}}, 18},
+    {"inventory, cut", "07 0004 0000 FFFF", KEYED, ACTIVE, {{-1, 0}}, 0},
+};
+
+static void try_cut(size_t number)
+{
+    static struct input input;
+    static const uint32_t cut_after[] = {0, 1, 2, 3, 4, UINT32_MAX};
+    for (size_t c = 0; c < sizeof cut_after / sizeof cut_after[0]; c++) {
+        uint8_t image[LARGEST_IMAGE];
+        uint32_t made = 0;
+        lay_out_pair(&input, cuts[number].state, 100, cuts[number].key_state, KEYED, 1);
+        memcpy(image, input.image, input.image_length);
+        for (; made < cut_after[c] && cuts[number].stores[made][0] >= 0; made++) {
+            image[cuts[number].stores[made][0]] = (uint8_t)cuts[number].stores[made][1];
+        }
+        input.frame_length = octets_of(cuts[number].octets, input.frame);
+        input.output_length = ROOM;
+        calls++;
+        expect(both_cut_command(&test_random, &input, cut_after[c]) == made, cuts[number].name);
+        expect(memcmp(input.image, image, input.image_length) == 0, cuts[number].name);
+        input.which = CALL_LOAD;
+        expect(run(&input).answer == 0, "what a cut left does not load");
+        bool is_all = cuts[number].stores[made][0] < 0;
+        ask(&input, cuts[number].octets, is_all ? cuts[number].again : 0);
+    }
+}
+
+/* ---- a shared key is changed in one place ---- */
 
 static void send(struct input *input, unsigned spi, uint8_t channel, const char *head)
 {
@@ -551,9 +641,15 @@ int main(int argument_count, char **arguments)
         try_below();
         try_inventories();
         try_longest_inventory();
+        try_extreme_ids();
+        for (size_t number = 0; number < sizeof cuts / sizeof cuts[0]; number++) {
+            both_at(options.seed, options.from + i, number);
+            try_cut(number);
+        }
         try_shared_key();
     }
-    printf("keys: %zu images and %zu commands, %" PRIu64 " calls: version 3, its IVs, its key commands and a shared key as the request says\n",
-           sizeof images / sizeof images[0], sizeof commands / sizeof commands[0], calls);
+    printf("keys: %zu images, %zu commands and %zu that are cut, %" PRIu64 " calls: version 3, its IVs, its key commands and a shared key as the "
+           "request says\n",
+           sizeof images / sizeof images[0], sizeof commands / sizeof commands[0], sizeof cuts / sizeof cuts[0], calls);
     return 0;
 }
