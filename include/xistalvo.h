@@ -8,8 +8,8 @@
  * has no other condition to meet: whatever the ranges hold, an answer comes back.
  *
  * The image is the table of associations: octet 0 is the version, 1 to 3, octet 1 the count k, 0 to 32, then k entries of 4 octets (SPI,
- * position of the body), then k bodies of 52 octets; all in all 2 + 56 k octets, numbers big-endian. Keep it where it outlives a loss of
- * power: a call stores into it one octet at a time, and what a loss leaves after any of these stores is an image to load again.
+ * position of the body), then, in versions 1 and 2, k bodies of 52 octets; all in all 2 + 56 k octets, numbers big-endian. Keep it where it
+ * outlives a loss of power: a call stores into it one octet at a time, and what a loss leaves after any of these stores is an image to load again.
  * Octet 6 of a body is the virtual channel. From version 2 on, for telemetry, it is a set of channels, the lowest bit for channel 0, and not 0:
  * one association, with one number, for all of them. The window of an operational body is 1 to 1,024; that of another body may be any, as a loss
  * of power in a window change can leave any.
@@ -119,21 +119,21 @@ extern "C" {
 /* An output of this many octets is long enough for every result. */
 #define XISTALVO_LARGEST_FRAME 2048
 
-/* The commands, by their first octet, the tag. Two octets follow with the length of the value, and then the value, nothing behind it. The first
- * field of a value is the SPI, in 2 octets; a number has 12 octets, of which the first 8 are 0; a key ID has 2. xistalvo_command.h lays commands
- * out. */
+/* The commands, by their first octet, the tag. Two octets follow with the length of the value, and then the value, nothing behind it. Where a
+ * command names an SPI, it is the first field of the value, in 2 octets; a number has 12 octets, of which the first 8 are 0; a key ID has 2.
+ * xistalvo_command.h lays commands out. */
 #define XISTALVO_TAG_ACTIVATION 0x02   /* key ID */
 #define XISTALVO_TAG_DEACTIVATION 0x03 /* key ID */
 #define XISTALVO_TAG_INVENTORY 0x07    /* first and last key ID */
-#define XISTALVO_TAG_READ_NUMBER 0x10 /* SPI */
-#define XISTALVO_TAG_SET_WINDOW 0x15  /* SPI, window (2 octets) */
-#define XISTALVO_TAG_REKEY 0x16       /* SPI, key ID (2), 0 below version 3, and number (12), 0 */
-#define XISTALVO_TAG_EXPIRE 0x19      /* SPI */
-#define XISTALVO_TAG_SET_NUMBER 0x1A  /* SPI, number (12) */
-#define XISTALVO_TAG_START 0x1B       /* SPI, one channel or more (4 each) */
-#define XISTALVO_TAG_STOP 0x1E        /* SPI */
-#define XISTALVO_TAG_STATUS 0x1F      /* SPI */
-#define XISTALVO_TAG_PING 0x31        /* nothing */
+#define XISTALVO_TAG_READ_NUMBER 0x10  /* SPI */
+#define XISTALVO_TAG_SET_WINDOW 0x15   /* SPI, window (2 octets) */
+#define XISTALVO_TAG_REKEY 0x16        /* SPI, key ID (2), 0 below version 3, and number (12), 0 */
+#define XISTALVO_TAG_EXPIRE 0x19       /* SPI */
+#define XISTALVO_TAG_SET_NUMBER 0x1A   /* SPI, number (12) */
+#define XISTALVO_TAG_START 0x1B        /* SPI, one channel or more (4 each) */
+#define XISTALVO_TAG_STOP 0x1E         /* SPI */
+#define XISTALVO_TAG_STATUS 0x1F       /* SPI */
+#define XISTALVO_TAG_PING 0x31         /* nothing */
 
 /* The tag of a reply is its command's with the first bit set. Replies are laid out as commands are. */
 #define XISTALVO_TAG_OF_REPLY(tag) ((tag) | 0x80)
@@ -269,10 +269,10 @@ uint64_t xistalvo_command(uint8_t *image, size_t image_length, uint32_t *numbers
  *
  * Makes, of the octet stores that raise the mark of this entry one at a time to number/64 rounded down, the first as many as 'stores'
  * says, or all where there are fewer, and returns how many it made. Where the mark is already there or higher there are none.
- * An image whose version is not 1 to 3, whose count is above 32 or whose length is not 2 + 56 k, or in version 3 7 + 26 k + 35 q with a count q of
- * keys of at most 64, and an entry that is not below the count k: none is made and 0 returned. No other rule of the image is tested; the mark is
- * where the layout puts it, in the last 4 octets of the body at 2 + 4 k + 52 entry, or in version 3 6 + 4 k + 22 entry, whatever the contents say
- * of its position.
+ * An image whose version is not 1 to 3, whose count is above 32 or whose length is not 2 + 56 k, or in version 3 7 + 26 k + 35 q where q is its
+ * count of keys, and an entry that is not below the count k: none is made and 0 returned. No other rule of the image is tested; the mark is where
+ * the layout puts it, in the last 4 octets of the body at 2 + 4 k + 52 entry, or in version 3 6 + 4 k + 22 entry, whatever the contents say of its
+ * position.
  * Only those octets of the image are written. Securing, checking and commands make all their stores before they write the output. */
 uint32_t xistalvo_raise(uint8_t *image, size_t image_length, uint8_t entry, uint32_t number, uint32_t stores);
 

@@ -135,7 +135,8 @@ static void try_smallest(void)
     }
 }
 
-/* All counts of keys with no association, one and 32. The largest image has 3,079 octets, and the sixty-fifth key is one too many. */
+/* All counts of keys with no association, one and 32. The largest image has 3,079 octets, and the sixty-fifth key is one too many, for a load; a
+ * cut tests no such rule (xistalvo.h). */
 static void try_every_count(void)
 {
     static const size_t counts[] = {0, 1, 32};
@@ -168,6 +169,10 @@ static void try_every_count(void)
             input.numbers_length = NUMBER_COUNT;
             expect(input.image_length == 7 + 26 * table.count + 35 * keys, "an image has another length");
             expect(run(&input).answer == (keys > MOST_KEYS ? 1 : 0), "0 to 64 keys are to load, and 65 are not");
+            uint32_t made = both_raise(&test_random, input.image, input.image_length, MOST_ENTRIES - 1, 64 * 9, 5);
+            expect(made == (table.count == MOST_ENTRIES ? 2 : 0), "a cut asks for no more than that the length fits the counts");
+            made = both_raise(&test_random, input.image, input.image_length - 1, 0, 64 * 9, 5);
+            expect(made == 0, "a cut raises a mark in an image that lacks an octet");
         }
     }
 }

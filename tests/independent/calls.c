@@ -182,7 +182,8 @@ void carry_out_stores(const struct effect *effect, size_t j, uint8_t *image)
     }
 }
 
-/* Whether version, count, length and, where there is one, the count of keys fit one another; no other rule is asked for. */
+/* Whether version, count, length and, where there is one, the count of keys fit one another; no other rule is asked for, also not that there are
+ * at most 64 keys. */
 static bool has_shape(const uint8_t *image, size_t length)
 {
     if (length < 2 || image[0] < 1 || image[0] > 3 || image[1] > MOST_ENTRIES) {
@@ -192,7 +193,7 @@ static bool has_shape(const uint8_t *image, size_t length)
     if (image[0] < 3) {
         return length == end;
     }
-    return length > end && image[end] <= MOST_KEYS && length == key_position(image[1], image[end]);
+    return length > end && length == key_position(image[1], image[end]);
 }
 
 uint32_t reading_raise(uint8_t *image, size_t length, unsigned entry, uint32_t number, uint32_t stores)
