@@ -749,10 +749,13 @@ GROUND = {
 
 # The crates of management commands.
 MANAGEMENT = {
-    "command_form": (384, 1, 326, DATA, "the form of a command, its channels"),
-    "procedures": (204, 2, 506, DATA, "what a command may call, a record each"),
-    "commands": (204, 3, 506, DATA, "the command call: decided, then carried out"),
-    "command_promises": (24, 4, 340, FREE, "theorems alone"),
+    "named_keys": (204, 1, 166, DATA, "the key that one names"),
+    "command_form": (378, 2, 166, DATA, "form, channels"),
+    "inventory": (378, 3, 332, DATA, "the keys of a range, listed"),
+    "procedures": (24, 4, 686, DATA, "what a command may call, a record each"),
+    "replies": (204, 5, 506, DATA, "the reply of each"),
+    "commands": (204, 6, 506, DATA, "the command call: decided, then carried out"),
+    "command_promises": (24, 7, 340, FREE, "theorems alone"),
 }
 
 
@@ -805,15 +808,19 @@ def ground():
 
 def management():
     module = {
-        "link": (24, 2, 172, DATA, "the calls; load"),
-        "verdicts": (204, 1, 172, DATA, "tests under an entry"),
-        "association": (384, 0, 326, NUMBER, "search, entries"),
-        "promises": (24, 3, 172, FREE, "theorems alone"),
-        "lent_calls": (372, 4, 338, FREE, "the calls over what C lends"),
+        "image": (204, 0, 340, NUMBER, "contents, the whole rule"),
+        "writing": (552, 0, 158, FREE, "text into an output"),
+        "association": (378, 1, 166, NUMBER, "search, entries"),
+        "verdicts": (24, 2, 172, DATA, "tests under an entry"),
+        "link": (24, 5, 172, DATA, "the calls; load"),
+        "promises": (24, 6, 172, FREE, "theorems alone"),
+        "lent_calls": (372, 7, 338, FREE, "the calls over what C lends"),
     }
     arrows = [
-        ("command_promises", "promises", 110), ("command_promises", "commands", 284), ("lent_calls", "commands", 541), ("commands", "procedures", 457), ("procedures", "verdicts", 290),
-        ("procedures", "command_form", 547), ("command_form", "association", 547), ("promises", "link", 80),
+        ("command_promises", "promises", 110), ("command_promises", "commands", 284), ("lent_calls", "commands", 541), ("commands", "replies", 457),
+        ("replies", "procedures", 457), ("procedures", "verdicts", 110), ("procedures", "named_keys", 287), ("procedures", "inventory", 544),
+        ("inventory", "command_form", 461), ("inventory", "writing", 631), ("command_form", "association", 461), ("association", "image", 461),
+        ("named_keys", "image", 287), ("promises", "link", 110),
     ]
     return beside(Picture("management", "The crates of management commands"), MANAGEMENT, module, arrows, [("commands", "link", 214, 160)])
 
