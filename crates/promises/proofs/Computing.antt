@@ -30,7 +30,7 @@ use Rattle.services.specs.SecurityHeader.{numberUnder}
 use Rattle.services.specs.Services.{service}
 use Rattle.promises.specs.Forms.{formOf}
 use Rattle.promises.specs.Images as words
-use Rattle.promises.specs.Versions.{rowOf}
+use Rattle.promises.specs.Versions.{shapeOf}
 use Rattle.promises.specs.Cases.{imageWith, securedC, clearTc, room}
 
 unfoldable pub octets : Unit {0}
@@ -48,7 +48,7 @@ closings = tt
 
 -- in the promises' words
 unfoldable pub forms : Unit {0}
-unfolding formOf rowOf words.keyFrom
+unfolding formOf shapeOf words.keyFrom
 forms = tt
 
 unfoldable pub images : Unit {0}
