@@ -753,7 +753,8 @@ MANAGEMENT = {
     "command_form": (378, 2, 166, DATA, "form, channels"),
     "inventory": (378, 3, 332, DATA, "the keys of a range, listed"),
     "procedures": (24, 4, 686, DATA, "what a command may call, a record each"),
-    "replies": (204, 5, 506, DATA, "the reply of each"),
+    "plans": (204, 5, 249, DATA, "the octet stores of each"),
+    "replies": (461, 5, 249, DATA, "the reply of each"),
     "commands": (204, 6, 506, DATA, "the command call: decided, then carried out"),
     "command_promises": (24, 7, 340, FREE, "theorems alone"),
 }
@@ -817,8 +818,8 @@ def management():
         "lent_calls": (372, 7, 338, FREE, "the calls over what C lends"),
     }
     arrows = [
-        ("command_promises", "promises", 110), ("command_promises", "commands", 284), ("lent_calls", "commands", 541), ("commands", "replies", 457),
-        ("replies", "procedures", 457), ("procedures", "verdicts", 110), ("procedures", "named_keys", 287), ("procedures", "inventory", 544),
+        ("command_promises", "promises", 110), ("command_promises", "commands", 284), ("lent_calls", "commands", 541), ("commands", "plans", 328),
+        ("commands", "replies", 585), ("plans", "procedures", 328), ("replies", "procedures", 585), ("procedures", "verdicts", 110), ("procedures", "named_keys", 287), ("procedures", "inventory", 544),
         ("inventory", "command_form", 461), ("inventory", "writing", 631), ("command_form", "association", 461), ("association", "image", 461),
         ("named_keys", "image", 287), ("promises", "link", 110),
     ]
