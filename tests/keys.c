@@ -491,7 +491,8 @@ static void try_longest_inventory(void)
         input.output_length = room;
         struct outcome outcome = run(&input);
         expect(outcome.answer == (room < 197 ? 6 : 0), "196 octets hold an inventory of 64 keys, or 197 do not");
-        expect(room < 197 || (outcome.length == 197 && input.output[2] == 194 && input.output[4] == 64), "an inventory of 64 keys has not 197 octets");
+        expect(room < 197 || (outcome.length == 197 && input.output[2] == 194 && input.output[4] == 64),
+               "an inventory of 64 keys has not 197 octets");
     }
 }
 

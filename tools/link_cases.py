@@ -1525,7 +1525,7 @@ def broken_key_images():
     yield "a mark of 2^26", image_of(replace(SHARING, mark=2**26))
     yield "SPI 65,535", image_of(replace(SHARING, spi=65535))
     yield "nothing behind the bodies", good[: at[2]]
-    yield "versions 1 and 2 in front of it", bytes([1]) + good[1:]
+    yield "version 1 in front of it", bytes([1]) + good[1:]
     yield "version 2 in front of it", bytes([2]) + good[1:]
     yield "version 3 in front of version 2", bytes([3]) + image_of(replace(B, version=2))[1:]
 
