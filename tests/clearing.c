@@ -82,14 +82,15 @@ static void key_of(unsigned number, uint8_t key[KEY_LENGTH])
     }
 }
 
-static void prepare(unsigned service, unsigned key)
+static void prepare(unsigned version, unsigned service, unsigned key)
 {
     static const uint8_t header[] = {0x00, 27, 5 << 2, 0, 0};
     for (unsigned end = 0; end < 2; end++) {
-        struct table table = {.version = 1, .count = 1};
+        struct table table = {.version = version, .count = 1, .key_count = 1};
         table.entries[0] = (struct association){.spi = SPI, .service = service, .kind = 1, .direction = end + 1, .state = 2,
-                                                .spacecraft = 27, .channel = 5, .window = 100, .mark = 0};
-        key_of(key, table.entries[0].key);
+                                                .spacecraft = 27, .channel = 5, .window = 100, .key_id = 7, .mark = 0};
+        table.keys[0] = (struct key){.id = 7, .state = ACTIVE};
+        key_of(key, version == 3 ? table.keys[0].octets : table.entries[0].key);
         image_length = write_image(&table, images[end]);
         xistalvo_load(images[end], image_length, numbers[end], NUMBER_COUNT);
     }
@@ -100,9 +101,9 @@ static void prepare(unsigned service, unsigned key)
 }
 
 /* A call with this key, and for a check the sending before it; the stack then is as the last call left it. */
-static void run(void (*call)(void), unsigned service, unsigned key)
+static void run(void (*call)(void), unsigned version, unsigned service, unsigned key)
 {
-    prepare(service, key);
+    prepare(version, service, key);
     if (call == call_check || call == call_ground_check) {
         run_on_own_stack(call_secure);
     }
@@ -123,12 +124,29 @@ static size_t pieces_found(unsigned number)
     return found;
 }
 
-static void need(bool is_so, const char *call, unsigned service, const char *sentence)
+static void need(bool is_so, const char *call, unsigned version, unsigned service, const char *sentence)
 {
     if (!is_so) {
-        fprintf(stderr, "clearing: %s, service %u: %s\n", call, service, sentence);
+        fprintf(stderr, "clearing: %s, version %u, service %u: %s\n", call, version, service, sentence);
         exit(1);
     }
+}
+
+/* Gives how many pieces of the key a call leaves that is not followed by a clearing. */
+static size_t try_call(const char *name, void (*call)(void), unsigned version, unsigned service)
+{
+    static uint8_t left[ROOM];
+    is_cleared = false;
+    run(call, version, service, 1);
+    size_t before = pieces_found(1);
+    need(before != 0, name, version, service, "the key is not on the stack after a call, so this test can see nothing");
+    is_cleared = true;
+    run(call, version, service, 1);
+    need(pieces_found(1) == 0, name, version, service, "a piece of the key is on the stack after the clearing");
+    memcpy(left, stack, sizeof left);
+    run(call, version, service, 2);
+    need(memcmp(left, stack, sizeof left) == 0, name, version, service, "what is left on the stack depends on the key");
+    return before;
 }
 
 int main(void)
@@ -140,20 +158,12 @@ int main(void)
                  {"check", call_check},
                  {"ground_secure", call_ground_secure},
                  {"ground_check", call_ground_check}};
-    static uint8_t left[ROOM];
     size_t before = 0;
     for (size_t i = 0; i < sizeof calls / sizeof calls[0]; i++) {
-        for (unsigned service = 1; service <= 2; service++) {
-            is_cleared = false;
-            run(calls[i].call, service, 1);
-            need(pieces_found(1) != 0, calls[i].name, service, "the key is not on the stack after a call, so this test can see nothing");
-            before += pieces_found(1);
-            is_cleared = true;
-            run(calls[i].call, service, 1);
-            need(pieces_found(1) == 0, calls[i].name, service, "a piece of the key is on the stack after the clearing");
-            memcpy(left, stack, sizeof left);
-            run(calls[i].call, service, 2);
-            need(memcmp(left, stack, sizeof left) == 0, calls[i].name, service, "what is left on the stack depends on the key");
+        for (unsigned version = 1; version <= 3; version += 2) { /* a key in its body, and one in the key part */
+            for (unsigned service = 1; service <= 2; service++) {
+                before += try_call(calls[i].name, calls[i].call, version, service);
+            }
         }
     }
     printf("clearing: %zu pieces of keys before, none after; no octet that is left depends on the key\n", before);

@@ -1,6 +1,6 @@
-/* Calls whose keys and data are secret, for valgrind: each octet of a key and of a frame's data is marked as undefined, so that memcheck names
- * every place at which the compiled module branches on something made of them, or reads memory where something made of them says. tests/secrets
- * runs it and holds what is named to a list.
+/* Calls whose keys and data are secret, for valgrind: each octet of a key, in its body or in the key part, and of a frame's data is marked as
+ * undefined, so that memcheck names every place at which the compiled module branches on something made of them, or reads memory where something
+ * made of them says. tests/secrets runs it and holds what is named to a list. Of an inventory it asks itself that no octet is made of a key.
  *
  * What goes out is no secret: a secured frame is marked as defined before it is checked, but for its data and MAC, and so is a result. */
 #include "../include/xistalvo.h"
@@ -11,7 +11,7 @@
 #include <string.h>
 #include <valgrind/memcheck.h>
 
-enum { HEADER = 5, SPI = 9 };
+enum { HEADER = 5, SPI = 9, KEYS = 3 };
 
 static uint8_t images[2][LARGEST_IMAGE], clear[LARGEST_FRAME], secured[LARGEST_FRAME], opened[LARGEST_FRAME];
 static uint32_t numbers[2][NUMBER_COUNT];
@@ -31,16 +31,25 @@ static void need(uint64_t result, unsigned answer, const char *call)
     }
 }
 
-/* Both ends with one association, whose key is hidden. */
-static void prepare(unsigned service)
+/* Both ends with one association, whose key is hidden; in version 3 between two others, which are hidden too. */
+static void prepare(unsigned version, unsigned service)
 {
     for (unsigned end = 0; end < 2; end++) {
-        struct table table = {.version = 1, .count = 1};
+        struct table table = {.version = version, .count = 1, .key_count = KEYS};
         table.entries[0] = (struct association){.spi = SPI, .service = service, .kind = XISTALVO_TC, .direction = end + 1, .state = 2,
-                                                .spacecraft = 27, .channel = 5, .window = 100, .mark = 0};
+                                                .spacecraft = 27, .channel = 5, .window = 100, .key_id = 7, .mark = 0};
         memset(table.entries[0].key, 0xA5, KEY_LENGTH);
+        for (unsigned j = 0; j < KEYS; j++) {
+            table.keys[j] = (struct key){.id = 6 + j, .state = ACTIVE};
+            memset(table.keys[j].octets, 0xA4 + (int)j, KEY_LENGTH);
+        }
         image_length = write_image(&table, images[end]);
-        hide(images[end] + XISTALVO_AT_BODY(1, 0) + XISTALVO_IN_KEY, KEY_LENGTH);
+        if (version == 1) {
+            hide(images[end] + XISTALVO_AT_BODY(1, 0) + XISTALVO_IN_KEY, KEY_LENGTH);
+        }
+        for (unsigned j = 0; j < KEYS && version == 3; j++) {
+            hide(images[end] + XISTALVO_AT_KEY_3(1, j) + XISTALVO_IN_KEY_OCTETS, KEY_LENGTH);
+        }
         need(xistalvo_load(images[end], image_length, numbers[end], NUMBER_COUNT), XISTALVO_DONE, "load");
     }
 }
@@ -75,15 +84,32 @@ static void round_trip(unsigned service, size_t data)
     check(data, before, 0, XISTALVO_DONE);
 }
 
+/* The reply lists all keys, and no octet of it depends on what they are. */
+static void list_keys(void)
+{
+    static const uint8_t inventory[XISTALVO_INVENTORY_LENGTH] = {XISTALVO_TAG_INVENTORY, 0, 4, 0, 0, 0xFF, 0xFF};
+    uint64_t result = xistalvo_command(images[0], image_length, numbers[0], NUMBER_COUNT, inventory, sizeof inventory, opened, sizeof opened);
+    need(result, XISTALVO_DONE, "command");
+    if (XISTALVO_LENGTH(result) != XISTALVO_INVENTORY_REPLY_LENGTH(KEYS)
+        || VALGRIND_CHECK_MEM_IS_DEFINED(opened, XISTALVO_INVENTORY_REPLY_LENGTH(KEYS)) != 0) {
+        fputs("secrets: an inventory does not list the keys, or tells something of their octets\n", stderr);
+        exit(1);
+    }
+}
+
 int main(void)
 {
     static const size_t sizes[] = {1, 16, 100, 986};
-    for (unsigned run = 0; run < 4; run++) {
+    for (unsigned run = 0; run < 8; run++) {
         unsigned service = run % 2 + 1;
-        is_on_ground = run / 2 == 1;
-        prepare(service);
+        unsigned version = run < 4 ? 1 : 3;
+        is_on_ground = run / 2 % 2 == 1;
+        prepare(version, service);
         for (size_t i = 0; i < sizeof sizes / sizeof sizes[0]; i++) {
             round_trip(service, sizes[i]);
+        }
+        if (version == 3) {
+            list_keys();
         }
     }
     return 0;

@@ -1,4 +1,4 @@
--- Document 01, 'The image', and document 02, requests 2 and 5: the body of an entry, what its octets hold and what is allowed there. Octets
+-- Document 01, 'The image', and document 02, requests 2, 5 and 9: the body of an entry, what its octets hold and what is allowed there. Octets
 -- are counted from the body's first. A field whose place, size or rule depends on the image's version is given it.
 -- Assumes nothing.
 use Prim.Native.Nat.{ℕ, _^_}
@@ -12,7 +12,7 @@ use Rattle.kinds.specs.declared.kinds.Named.{Named}
 use Rattle.kinds.specs.declared.kinds.Named.the-variants as naming
 use Rattle.marks.specs.Gray.{codeLength, ungray}
 use Rattle.bodies.specs.Layout.{servicePlace, kindPlace, directionPlace, statePlace, spacecraftPlace, channelPlace, mapPlace, windowPlace}
-use Rattle.bodies.specs.Layout.{maskPlace, maskLength, layoutOf}
+use Rattle.bodies.specs.Layout.{maskPlace, maskLength, idLength, layoutOf}
 
 -- ---- what it holds
 
@@ -52,6 +52,10 @@ windowOf body = numberAt windowPlace 2 body
 
 abbrev pub maskOf : List ℕ → List ℕ
 maskOf body = part maskPlace maskLength body
+
+-- the ID of its key, where the version has a key part
+abbrev pub keyIdOf : ℕ → List ℕ → ℕ
+keyIdOf version body = numberAt (layoutOf version .key) idLength body
 
 abbrev pub codeOf : ℕ → List ℕ → ℕ
 codeOf version body = numberAt (layoutOf version .mark) codeLength body
@@ -113,7 +117,7 @@ windowOk body = not (eqb (stateOf body) operational) || windowFits (windowOf bod
 abbrev pub markOk : ℕ → List ℕ → Bool
 markOk version body = ltb (markOf version body) (2 ^ 26)
 
--- every rule of a body; the key may be any
+-- every rule of a body; the key may be any, and so may be the ID of one
 unfoldable pub bodyOk : ℕ → List ℕ → Bool
 bodyOk version body =
     serviceOk body

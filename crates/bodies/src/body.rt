@@ -1,4 +1,4 @@
-// Document 01, 'The image', and document 02, requests 2 and 5: the body of an entry, what its octets hold and what is allowed there.
+// Document 01, 'The image', and document 02, requests 2, 5 and 9: the body of an entry, what its octets hold and what is allowed there.
 use crate::layout::CHANNEL;
 use crate::layout::DIRECTION;
 use crate::layout::KIND;
@@ -22,7 +22,7 @@ ghost use Prim.Native.Nat.{_+_, _<_, _≤_};
 ghost use Rattle.octets.specs.Lists.{octet};
 ghost use Rattle.octets.specs.Numbers.{numberAt};
 ghost use Rattle.kinds.specs.Kinds.{kindIs, named};
-ghost use Rattle.bodies.specs.Body.{bodyIn, serviceOf, kindIn, directionOf, stateOf, spacecraftOf, channelOf, holdsSet, mapOf, windowOf, maskOf, codeOf};
+ghost use Rattle.bodies.specs.Body.{bodyIn, serviceOf, kindIn, directionOf, stateOf, spacecraftOf, channelOf, holdsSet, mapOf, windowOf, maskOf, keyIdOf, codeOf};
 ghost use Rattle.bodies.specs.Body.{serviceOk, directionOk, stateOk, channelOk, maskOk, kindOk, windowFits, windowOk, markOk, bodyOk};
 ghost use Rattle.bodies.specs.Layout.{fieldsEnd};
 
@@ -111,6 +111,13 @@ pub fn mask_of(image: &[u8], version: u8, at: u16) -> [u8; 6]
     let mut mask: [u8; MASK_LENGTH] = [0; MASK_LENGTH];
     copy_at(image, at as usize + MASK, &mut mask);
     mask
+}
+
+// The ID of the key, where the version has a key part.
+pub fn key_id_of(image: &[u8], version: u8, at: u16) -> u16
+    ensures { λ r. ⌜ r ≡ keyIdOf version (bodyIn (now (image .entry)) version at) ⌝ }
+{
+    two_at(image, at as usize + layout_of(version).key as usize)
 }
 
 pub fn code_of(image: &[u8], version: u8, at: u16) -> u32

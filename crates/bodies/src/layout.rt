@@ -33,12 +33,25 @@ pub struct Layout {
     pub extra: u8,
     // Whether a TM body holds a set of channels in place of one.
     pub sets: bool,
+    // Whether the keys stand in a part of their own, so that a body holds a key's ID in place of the key.
+    pub keys: bool,
 }
 
 // The layout of a version; another number is read as version 1 is, and is not the number of that layout.
 pub fn layout_of(version: u8) -> Layout
     ensures { λ r. ⌜ (r ≡ layoutOf version) × Lawful r ⌝ }
 {
+    if version == 3 {
+        return Layout {
+            version: 3,
+            body: 22,
+            key: 16,
+            mark: 18,
+            extra: 1,
+            sets: true,
+            keys: true,
+        };
+    }
     if version == 2 {
         return Layout {
             version: 2,
@@ -47,6 +60,7 @@ pub fn layout_of(version: u8) -> Layout
             mark: 48,
             extra: 0,
             sets: true,
+            keys: false,
         };
     }
     Layout {
@@ -56,6 +70,7 @@ pub fn layout_of(version: u8) -> Layout
         mark: 48,
         extra: 0,
         sets: false,
+        keys: false,
     }
 }
 

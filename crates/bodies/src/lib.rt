@@ -11,6 +11,7 @@ pub use body::channel_of;
 pub use body::code_of;
 pub use body::direction_of;
 pub use body::holds_set;
+pub use body::key_id_of;
 pub use body::kind_in;
 pub use body::map_of;
 pub use body::mask_of;

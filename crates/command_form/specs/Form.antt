@@ -1,4 +1,4 @@
--- Document 02, request 5: the form of a command and of a reply: a tag of one octet, a length of two, and a value. The length field holds how
+-- Document 02, requests 5 and 9: the form of a command and of a reply: a tag of one octet, a length of two, and a value. The length field holds how
 -- many octets stand behind it. A reply's tag is the command's with the first bit set.
 -- Assumes nothing.
 use Prim.Native.Nat.{ℕ, _+_}
@@ -46,6 +46,17 @@ keyIdLength = 2
 
 abbrev pub keyAsked : List ℕ → ℕ
 keyAsked value = numberAt spiLength keyIdLength value
+
+-- a value that names a key and no association starts with the key's ID
+abbrev pub keyNamed : List ℕ → ℕ
+keyNamed value = numberAt 0 keyIdLength value
+
+-- an inventory names a first ID and a last one
+abbrev pub firstNamed : List ℕ → ℕ
+firstNamed value = numberAt 0 keyIdLength value
+
+abbrev pub lastNamed : List ℕ → ℕ
+lastNamed value = numberAt keyIdLength keyIdLength value
 
 abbrev pub channelLength : ℕ
 channelLength = 4

@@ -1,10 +1,10 @@
 -- What an answer 0 of a command means: its image is valid, its numbers agree, it calls a procedure, and where that names an association, it
--- has found the entry, and does there what the procedure does; one that names none stores nothing and changes no number.
+-- has found the entry, and does there what the procedure does; one that names none changes no number, and stores nothing or the state of a key.
 -- Assumes nothing.
 use mathlib.Core.Path.{_≡_, refl, sym, ap, _∙_}
 use mathlib.Core.Logic.{_≢_}
 use mathlib.Core.Bool.{Bool, true, false, not}
-use mathlib.Core.List.{List, []}
+use mathlib.Core.List.{List, [], _∷_}
 use Prim.Native.Nat.{ℕ, _+_, _<_}
 use native.Mathlib.Omega.{arith}
 use borrow.Author.Tests.{eqb-true, eq-eqb, not-false}
@@ -12,7 +12,7 @@ use lib.Dec.{eqb}
 use lib.ListN.{length, set}
 use lib.Seq.{getD-drop, set-getD}
 use Rattle.octets.specs.Lists.{Octets}
-use Rattle.image.specs.Image.{versionOf, countOf, spiOf, bodyOf, validImage}
+use Rattle.image.specs.Image.{countOf, spiOf, validImage}
 use Rattle.image.proofs.ValidImages.{Valid, valid, spi-once}
 use Rattle.association.specs.Association.{indexOf}
 use Rattle.numbers.specs.Numbers.{numberOf, agrees}
@@ -24,13 +24,14 @@ use Rattle.judging.specs.Answers.{first}
 use Rattle.judging.specs.Replies.{Reply}
 use Rattle.judging.proofs.First.{passed}
 use Rattle.command_form.specs.Form.{frontLength, valueOf, spiNamed}
-use Rattle.procedures.specs.Procedures.{procedureIs, procedureBehind, procedureOf, called}
+use Rattle.procedures.specs.Procedures.{keyStateIn, procedureIs, procedureBehind, procedureOf, called}
 use Rattle.procedures.specs.declared.procedure.Called.{Called}
 use Rattle.procedures.specs.declared.procedure.Called.the-variants as calls
 use Rattle.procedures.specs.declared.procedure.Procedure as code
 use Rattle.commands.specs.Commanding.{callsNone, entryNamed, isNothing, testsAt, replyAt, commandReply}
 use Rattle.commands.proofs.Accepting.{Accepts, accepts-all}
-use Rattle.commands.proofs.Doing.{Ready, numberFor, quiet}
+use Rattle.commands.proofs.Doing.{Ready, numberFor, Quiet, nothing-stored, key-turned, quiet}
+use Rattle.commands.proofs.Turning.{Turns}
 
 -- ---- the entry with an SPI
 
@@ -68,7 +69,7 @@ pub record Done (image last command : List ℕ) (room : ℕ) : Type 0 where
   pub agree : agrees image last ≡ true
   pub calls : called command ≡ calls.Procedure procedure
   pub named : entryNamed (procedureIs procedure) image (valueOf command) ≡ found.At entry
-  pub under : Accepts (procedureIs procedure) (versionOf image) (bodyOf image entry) (numberOf last entry) (valueOf command) room
+  pub under : Accepts (procedureIs procedure) image entry (numberOf last entry) (valueOf command) room
   pub reply : commandReply image last command room ≡ replyAt 0 (procedureIs procedure) image last entry (valueOf command)
 
 module _ (image last command : List ℕ) (room : ℕ) where
@@ -95,7 +96,7 @@ module _ (image last command : List ℕ) (room : ℕ) where
             agree = a;
             calls = c;
             named = f;
-            under = accepts-all (procedureIs p) (versionOf image) (bodyOf image e) (numberOf last e) value room u;
+            under = accepts-all (procedureIs p) image e (numberOf last e) value room u;
             reply = rw (z, c, f);
           }
       by-found v a p c found.Nothing f some u = let q : _≡_ {A = ℕ} 0 1 = cc in absurd (omega arith)
@@ -110,11 +111,13 @@ module _ (image last command : List ℕ) (room : ℕ) where
 -- ---- where it is done: at the entry that it names, or at none
 
 pub data Where (image last command : List ℕ) (q : Reply) : Type 0 where
-  at : (p : code.Procedure) (i : ℕ) → called command ≡ calls.Procedure p → i < countOf image → spiOf image i ≡ spiNamed (valueOf command)
+  at : (p : code.Procedure) (i : ℕ) → called command ≡ calls.Procedure p → procedureIs p .names ≡ true → i < countOf image → spiOf image i ≡ spiNamed (valueOf command)
       → Ready (procedureIs p) image last i (valueOf command)
       → q ≡ replyAt 0 (procedureIs p) image last i (valueOf command)
       → Where image last command q
   nowhere : q .stores ≡ [] → set last (q .entry) (q .number) ≡ last → Where image last command q
+  turning : (id state : ℕ) → q .stores ≡ keyStateIn image id state ∷ [] → Turns image id state → set last (q .entry) (q .number) ≡ last
+      → Where image last command q
 
 value-octets : (command : List ℕ) → Octets command → Octets (valueOf command)
 value-octets command spoken i = rw (getD-drop frontLength command i 0) (spoken (frontLength + i))
@@ -130,7 +133,7 @@ place image last command room octets spoken thirtyTwo d = by-names (procedureIs 
     by-names : (t : Bool) → procedureIs p .names ≡ t → Where image last command (commandReply image last command room)
     by-names true n =
         let f = spi-found image (spiNamed (valueOf command)) (d .entry) (rw n at (d .named)) in
-        at p (d .entry) (d .calls) (f .0) (f .1)
+        at p (d .entry) (d .calls) n (f .0) (f .1)
         (record {
           valid = d .valid;
           octets = octets;
@@ -140,8 +143,17 @@ place image last command room octets spoken thirtyTwo d = by-names (procedureIs 
           octetsIn = value-octets command spoken;
           asked = d .under .asked;
           allowed = d .under .allowed;
+          ready = d .under .ready;
         })
         (d .reply)
     by-names false n =
-        let s = quiet p n image (d .entry) (numberFor (procedureIs p) last (d .entry) (valueOf command)) (numberOf last (d .entry)) (valueOf command) in
-        rw (d .reply) (nowhere (s .0) (rw (s .1) (set-getD last (d .entry) 0)))
+        let e = d .entry in
+        let number = numberFor (procedureIs p) last e (valueOf command) in
+        let s = quiet p n image e number (numberOf last e) (valueOf command) (d .valid) (d .under .known) (d .under .ready) in
+        rw (d .reply) (by-stores (rw (s .1) (set-getD last e 0)) (s .0))
+      where
+        by-stores : set last (d .entry) (numberFor (procedureIs p) last (d .entry) (valueOf command)) ≡ last
+            → Quiet (procedureIs p) image (d .entry) (numberFor (procedureIs p) last (d .entry) (valueOf command)) (valueOf command)
+            → Where image last command (replyAt 0 (procedureIs p) image last (d .entry) (valueOf command))
+        by-stores same (nothing-stored none) = nowhere none same
+        by-stores same (key-turned id state one turns) = turning id state one turns same

@@ -6,3 +6,4 @@ pub mod Done
 pub mod KeptFields
 pub mod Managed
 pub mod Small
+pub mod Turning

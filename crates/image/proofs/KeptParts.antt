@@ -1,28 +1,32 @@
 -- Document 01, 'What comes back': of two images that differ at most in a few octets of one body, the rules on their layout, the contents, the
--- other bodies and every other field of that body are the same; and if these octets are a mark that is allowed, the image stays valid.
+-- key part, the other bodies and every other field of that body are the same; and if these octets are a mark that is allowed, the image stays valid.
 -- Assumes nothing.
-use mathlib.Core.Path.{_≡_, sym, ap, ap₂, _∙_}
+use mathlib.Core.Path.{_≡_, refl, sym, ap, ap₂, _∙_}
 use mathlib.Core.Logic.{inl, inr, _≢_}
-use mathlib.Core.Bool.{true, _&&_}
+use mathlib.Core.Bool.{Bool, true, false, _&&_}
 use mathlib.Core.List.{List}
 use Prim.Native.Nat.{ℕ, _+_, _-_, _^_, _≤_, _<_}
 use native.Mathlib.Decide.{ℕ-discrete, decLt}
 use native.Mathlib.Nat.{add-zero}
 use native.Mathlib.Omega.{arith}
 use borrow.Author.Tests.{lt-ltb}
+use lib.Dec.{eqb}
 use lib.ListN.{length, List·getD-eq-default}
 use Rattle.octets.specs.Lists.{octet, part, all}
+use Rattle.octets.specs.Numbers.{numberAt}
 use Rattle.octets.proofs.Alls.{all-same}
 use Rattle.octets.proofs.Outside.{Apart, Outside, Changed, same-number, same-part}
 use Rattle.marks.specs.Gray.{codeLength}
-use Rattle.bodies.specs.Body.{bodyIn, markOf, markOk, bodyOk}
-use Rattle.bodies.specs.Layout.{keyLength, layoutOf}
-use Rattle.bodies.proofs.Layouts.{lawful, fields-inside}
+use Rattle.bodies.specs.Body.{bodyIn, keyIdOf, markOf, markOk, bodyOk}
+use Rattle.bodies.specs.Layout.{keyLength, idLength, layoutOf}
+use Rattle.bodies.proofs.Layouts.{lawful, fields-inside, id-before}
 use Rattle.bodies.proofs.SameFields.{SameFields, same-fields, same-rules}
-use Rattle.image.specs.Image.{versionOf, countOf, layout, entryPlace, spiOf, positionOf, bodyAt, bodyOf, markAt, markIn, keyAt, keyOf}
-use Rattle.image.specs.Image.{imageSize, laidOut, entryOk, validImage}
-use Rattle.image.proofs.ValidImages.{valid, mark-small}
-use Rattle.image.proofs.Places.{length-body, octet-body, behind-contents, mark-behind-body, bodies-apart, key-apart}
+use Rattle.image.specs.Image.{versionOf, countOf, layout, entryPlace, spiOf, positionOf, bodyAt, bodyOf, markAt, markIn}
+use Rattle.image.specs.Image.{partAt, keyCount, keyIn, keyIdIn, keyOf, imageSize, laidOut, entryOk, partSpi, lastOk, keyedOk, keysOk, validImage}
+use Rattle.keys.specs.Keys.{active, keyUnder, keyPartOk}
+use Rattle.keys.proofs.SameKeys.{same-in-state, same-under, same-keys}
+use Rattle.image.proofs.ValidImages.{ruled, valid, mark-small}
+use Rattle.image.proofs.Places.{length-body, octet-body, behind-contents, before-part, mark-behind-body, bodies-apart, key-body, key-part}
 
 -- ---- two images that differ at most in n octets of the body of an entry
 
@@ -43,10 +47,6 @@ module _ {image : List ℕ} {i at n : ℕ} {after : List ℕ} (w : Within image 
   pub kept-count : countOf after ≡ countOf image
   kept-count = w .only .outside 1 (inl (omega (arith, behind-contents image i)))
 
-  pub kept-laid : laidOut after ≡ laidOut image
-  unfolding laidOut imageSize
-  kept-laid = let l : length after ≡ length image = w .only .long in cc (kept-version, kept-count)
-
   -- the contents
   pub kept-spi : (j : ℕ) → j < countOf image → spiOf after j ≡ spiOf image j
   kept-spi j h = same-number (w .only) (entryPlace j) 2 (before (entryPlace j) 2 (omega arith))
@@ -63,9 +63,63 @@ module _ {image : List ℕ} {i at n : ℕ} {after : List ℕ} (w : Within image 
   unfolding markAt
   kept-mark-place j = ap₂ (λ (p v : ℕ). p + layoutOf v .mark) (kept-place j) kept-version
 
-  pub kept-key-place : (j : ℕ) → keyAt after j ≡ keyAt image j
-  unfolding keyAt
-  kept-key-place j = ap₂ (λ (p v : ℕ). p + layoutOf v .key) (kept-place j) kept-version
+  -- the key part, which stands behind the bodies
+  pub kept-part : partAt after ≡ partAt image
+  unfolding partAt
+  kept-part = cc (kept-version, kept-count)
+
+  pub kept-behind : (p : ℕ) → partAt image ≤ p → octet after p ≡ octet image p
+  kept-behind p h = w .only .outside p (inr (omega (arith, before-part image i (w .listed), w .inside)))
+
+  pub kept-keys : keyCount after ≡ keyCount image
+  unfolding keyCount
+  kept-keys = cc (kept-version, kept-part, kept-behind (partAt image) (omega arith))
+
+  pub kept-in : (state id : ℕ) → keyIn after state id ≡ keyIn image state id
+  kept-in state id = rw (kept-part, kept-keys) (same-in-state image after (partAt image) kept-behind (keyCount image) state id)
+
+  pub kept-under : (id : ℕ) → keyUnder after (partAt after) (keyCount after) id ≡ keyUnder image (partAt image) (keyCount image) id
+  kept-under id = rw (kept-part, kept-keys) (same-under image after (partAt image) kept-behind (keyCount image) id)
+
+  kept-key-rules : keyPartOk after (partAt after) (keyCount after) ≡ keyPartOk image (partAt image) (keyCount image)
+  kept-key-rules = rw (kept-part, kept-keys) (same-keys image after (partAt image) kept-behind (keyCount image))
+
+  -- the size
+  kept-size : imageSize after ≡ imageSize image
+  unfolding imageSize
+  kept-size = cc (kept-version, kept-part, kept-keys)
+
+  pub kept-laid : laidOut after ≡ laidOut image
+  unfolding laidOut
+  kept-laid = let l : length after ≡ length image = w .only .long in cc (kept-version, kept-count, kept-size)
+
+  -- the entry outside the count
+  kept-last : layout image .keys ≡ true → lastOk after ≡ lastOk image
+  kept-last has =
+      let extra : 1 ≤ layout image .extra = lawful (versionOf image) .entry has in
+      let behind : entryPlace (countOf image) + 4 ≤ bodyAt image i = omega (arith, behind-contents image i) in
+      let spi : numberAt (entryPlace (countOf image)) 2 after ≡ numberAt (entryPlace (countOf image)) 2 image =
+      same-number (w .only) (entryPlace (countOf image)) 2 (inl (omega arith))
+      in
+      let position : numberAt (entryPlace (countOf image) + 2) 2 after ≡ numberAt (entryPlace (countOf image) + 2) 2 image =
+      same-number (w .only) (entryPlace (countOf image) + 2) 2 (inl (omega arith))
+      in
+      rw (kept-count, kept-part) (ap₂ (λ (s p : ℕ). eqb s partSpi && eqb p (partAt image)) spi position)
+
+  -- the rules of the keys, if each body that serves still names one that is active
+  pub kept-keyed : ((j : ℕ) → j < countOf image → layout image .keys ≡ true → keyedOk after j ≡ keyedOk image j) → keysOk after ≡ keysOk image
+  unfolding keysOk
+  kept-keyed same = of (layout image .keys) refl
+    where
+      has : layout after .keys ≡ layout image .keys
+      has = ap (λ (v : ℕ). layoutOf v .keys) kept-version
+
+      of : (t : Bool) → layout image .keys ≡ t → keysOk after ≡ keysOk image
+      of false e = rw (has, e)
+      of true e =
+          rw (has, e)
+          (ap₂ _&&_ (ap₂ _&&_ (kept-last e) kept-key-rules)
+          (ap (λ (k : ℕ). all k (keyedOk after)) kept-count ∙ all-same (countOf image) (keyedOk after) (keyedOk image) (λ j h. same j h e)))
 
   -- the rules on the contents
   pub kept-entry : (j : ℕ) → j < countOf image → entryOk after j ≡ entryOk image j
@@ -127,11 +181,33 @@ module _ (image : List ℕ) (i : ℕ) (after : List ℕ) (listed : i < countOf i
   pub kept-fields : (j : ℕ) → SameFields (bodyOf image j) (bodyOf after j)
   kept-fields j = same-fields (fields-inside (versionOf image) .0) (kept-octets mark-within j)
 
+  -- a body holds its key, or the ID of it, before the mark
+  pub kept-key-id : (j : ℕ) → keyIdIn after j ≡ keyIdIn image j
+  kept-key-id j =
+      ap (λ (v : ℕ). keyIdOf v (bodyOf after j)) (kept-version mark-within)
+      ∙ same-number (kept-octets mark-within j) (layout image .key) idLength (inl (id-before (versionOf image)))
+
   pub kept-key : (j : ℕ) → keyOf after j ≡ keyOf image j
-  unfolding keyOf
-  kept-key j =
-      ap (λ (p : ℕ). part p keyLength after) (kept-key-place mark-within j)
-      ∙ same-part only (keyAt image j) keyLength (key-apart image i j)
+  kept-key j = of (layout image .keys) refl
+    where
+      has : layout after .keys ≡ layout image .keys
+      has = ap (λ (v : ℕ). layoutOf v .keys) (kept-version mark-within)
+
+      of : (t : Bool) → layout image .keys ≡ t → keyOf after j ≡ keyOf image j
+      of true e =
+          key-part after j (has ∙ e)
+          ∙ kept-under mark-within (keyIdIn after j)
+          ∙ ap (keyUnder image (partAt image) (keyCount image)) (kept-key-id j)
+          ∙ sym (key-part image j e)
+      of false e =
+          let held : layout image .key + keyLength ≤ layout image .mark = rw e at (lawful (versionOf image) .mark) in
+          key-body after j (has ∙ e)
+          ∙ ap (λ (v : ℕ). part (layoutOf v .key) keyLength (bodyOf after j)) (kept-version mark-within)
+          ∙ same-part (kept-octets mark-within j) (layout image .key) keyLength (inl held)
+          ∙ sym (key-body image j e)
+
+  kept-serving : (j : ℕ) → keyedOk after j ≡ keyedOk image j
+  kept-serving j = rw (kept-fields j .state, kept-key-id j, kept-in mark-within active (keyIdIn image j))
 
   module _ (passed : validImage image ≡ true) (allowed : markIn after i < 2 ^ 26) where
     version-same : versionOf after ≡ versionOf image
@@ -149,8 +225,7 @@ module _ (image : List ℕ) (i : ℕ) (after : List ℕ) (listed : i < countOf i
             ∙ sym (lt-ltb (markIn image j) (2 ^ 26) (mark-small image (valid image passed) j h))
         by-entry (no other) = ap (markOk (versionOf image)) (kept-body mark-within j other)
 
-    allowed-rules : (j : ℕ) → j < countOf image
-        → (entryOk after j && bodyOk (versionOf after) (bodyOf after j)) ≡ (entryOk image j && bodyOk (versionOf image) (bodyOf image j))
+    allowed-rules : (j : ℕ) → j < countOf image → ruled after j ≡ ruled image j
     allowed-rules j h =
         ap₂ _&&_ (kept-entry mark-within j h)
         (ap (λ (v : ℕ). bodyOk v (bodyOf after j)) version-same
@@ -159,8 +234,8 @@ module _ (image : List ℕ) (i : ℕ) (after : List ℕ) (listed : i < countOf i
     pub kept-valid : validImage after ≡ true
     unfolding validImage
     kept-valid =
-        ap₂ _&&_ (kept-laid mark-within)
-        (ap (λ (k : ℕ). all k (λ j. entryOk after j && bodyOk (versionOf after) (bodyOf after j)))
-        (kept-count mark-within)
-        ∙ all-same (countOf image) _ _ allowed-rules)
+        ap₂ _&&_
+        (ap₂ _&&_ (kept-laid mark-within)
+        (ap (λ (k : ℕ). all k (ruled after)) (kept-count mark-within) ∙ all-same (countOf image) (ruled after) (ruled image) allowed-rules))
+        (kept-keyed mark-within (λ j h has. kept-serving j))
         ∙ passed

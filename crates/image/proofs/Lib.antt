@@ -1,3 +1,4 @@
 pub mod KeptParts
 pub mod Places
+pub mod Sizes
 pub mod ValidImages

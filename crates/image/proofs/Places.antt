@@ -1,11 +1,12 @@
 -- Document 01, 'The image': where bodies, marks and keys stand, and how long and of what octets a body and its fields are. In an image that
--- is laid out, the bodies lie inside, behind the contents, and apart from each other.
+-- is laid out, the bodies lie inside, behind the contents, before the key part, and apart from each other.
 -- Assumes nothing.
 use mathlib.Core.Path.{_≡_, refl, sym, ap}
+use mathlib.Core.Bool.{true, false}
 use mathlib.Core.Logic.{inl, inr, _≢_}
 use mathlib.Core.List.{List}
 use Prim.Native.Nat.{ℕ, _+_, _≤_, _<_}
-use native.Mathlib.Decide.{ℕ-discrete, decLt}
+use native.Mathlib.Decide.{decLt}
 use native.Mathlib.Omega.{arith}
 use lib.ListN.{length}
 use Rattle.octets.specs.Lists.{octet, part}
@@ -15,9 +16,10 @@ use Rattle.octets.proofs.Parts.{length-part, octet-part, part-part}
 use Rattle.marks.specs.Gray.{codeLength, ungray}
 use Rattle.octets.proofs.Outside.{Apart}
 use Rattle.bodies.specs.Body.{bodyIn, codeOf}
-use Rattle.bodies.specs.Layout.{keyLength, Lawful}
+use Rattle.bodies.specs.Layout.{keyLength}
 use Rattle.bodies.proofs.Layouts.{lawful, ends-before}
-use Rattle.image.specs.Image.{versionOf, countOf, layout, entryPlace, bodyAt, bodyOf, markAt, markIn, keyAt, keyOf, imageSize}
+use Rattle.image.specs.Image.{versionOf, countOf, layout, entryPlace, bodyAt, bodyOf, markAt, markIn, partAt, keyCount, keyIdIn, keyOf, imageSize}
+use Rattle.keys.specs.Keys.{keyUnder}
 use Rattle.image.proofs.ValidImages.{LaidOut}
 
 -- ---- a body and its fields, in any image
@@ -41,12 +43,17 @@ part-body image i k n h = part-part (bodyAt image i) (layout image .body) k n im
 
 -- ---- the key
 
--- it stands in the body
-pub key-body : (image : List ℕ) (i : ℕ) → keyOf image i ≡ part (layout image .key) keyLength (bodyOf image i)
-unfolding keyOf keyAt
-key-body image i =
-    let l : Lawful (layout image) = lawful (versionOf image) in
-    sym (part-body image i (layout image .key) keyLength (omega arith))
+-- it stands in the body, or in the key part under the ID that the body names
+pub key-body : (image : List ℕ) (i : ℕ) → layout image .keys ≡ false → keyOf image i ≡ part (layout image .key) keyLength (bodyOf image i)
+unfolding keyOf
+key-body image i e =
+    let held : layout image .key + keyLength ≤ layout image .mark = rw e at (lawful (versionOf image) .mark) in
+    rw e (sym (part-body image i (layout image .key) keyLength (omega (arith, lawful (versionOf image) .inside))))
+
+pub key-part : (image : List ℕ) (i : ℕ) → layout image .keys ≡ true
+    → keyOf image i ≡ keyUnder image (partAt image) (keyCount image) (keyIdIn image i)
+unfolding keyOf
+key-part image i e = rw e
 
 -- ---- the mark
 
@@ -70,10 +77,15 @@ pub behind-contents : (image : List ℕ) (i : ℕ) → entryPlace (countOf image
 unfolding bodyAt
 behind-contents image i = omega arith
 
+-- and before the key part, or the end
+pub before-part : (image : List ℕ) (i : ℕ) → i < countOf image → bodyAt image i + layout image .body ≤ partAt image
+unfolding bodyAt partAt
+before-part image i h = omega (arith, ends-before (layout image .body) i (countOf image) h)
+
 -- the bodies and their marks lie inside the image
 pub body-inside : (image : List ℕ) → LaidOut image → (i : ℕ) → i < countOf image → bodyAt image i + layout image .body ≤ length image
-unfolding bodyAt imageSize
-body-inside image laid i h = omega (arith, laid .size, ends-before (layout image .body) i (countOf image) h)
+unfolding imageSize
+body-inside image laid i h = omega (arith, laid .size, before-part image i h)
 
 pub mark-inside : (image : List ℕ) → LaidOut image → (i : ℕ) → i < countOf image → markAt image i + codeLength ≤ length image
 mark-inside image laid i h =
@@ -88,16 +100,3 @@ bodies-apart image i j at n p k other h l = by-place (decLt j i)
     by-place : Dec (j < i) → Apart (bodyAt image i + at) n (bodyAt image j + p) k
     by-place (yes m) = inl (omega (arith, ends-before (layout image .body) j i m))
     by-place (no g) = inr (omega (arith, ends-before (layout image .body) i j (omega arith)))
-
--- no mark stands where a key does
-pub key-apart : (image : List ℕ) (i j : ℕ) → Apart (markAt image i) codeLength (keyAt image j) keyLength
-unfolding markAt keyAt
-key-apart image i j = by-entry (ℕ-discrete j i)
-  where
-    l : Lawful (layout image)
-    l = lawful (versionOf image)
-
-    by-entry : Dec (j ≡ i) → Apart (markAt image i) codeLength (keyAt image j) keyLength
-    by-entry (yes e) = inl (rw e (omega (arith, l .mark)))
-    by-entry (no other) =
-        bodies-apart image i j (layout image .mark) codeLength (layout image .key) keyLength other (l .inside) (omega (arith, l .mark, l .inside))

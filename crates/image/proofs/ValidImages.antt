@@ -1,22 +1,24 @@
 -- Document 01, 'The image': what a valid image is known to be. Its rules, which the definition tests one behind the other, are facts with
 -- names; and its SPIs rise, so that no two entries have the same.
 -- Assumes nothing.
-use mathlib.Core.Path.{_≡_}
-use mathlib.Core.Bool.{Bool, true, _&&_}
+use mathlib.Core.Path.{_≡_, refl}
+use mathlib.Core.Bool.{Bool, true, false, cond, _&&_}
 use mathlib.Core.List.{List}
 use Prim.Native.Nat.{ℕ, zero, suc, _-_, _^_, _≤_, _<_}
 use native.Mathlib.Decide.{decLt}
 use native.Mathlib.Omega.{arith}
-use borrow.Author.Tests.{eqb-true, leb-true, ltb-true}
+use borrow.Author.Tests.{eqb-true, eq-eqb, leb-true, ltb-true}
 use lib.Dec.{eqb·suc-zero}
 use lib.ListN.{length}
-use Rattle.octets.specs.Lists.{all}
+use Rattle.octets.specs.Lists.{octet, all}
 use Rattle.octets.proofs.Alls.{and-left, and-right, all-at}
-use Rattle.bodies.specs.Body.{bodyOk}
+use Rattle.bodies.specs.Body.{stateOf, operational, bodyOk}
 use Rattle.bodies.specs.Layout.{versionOk}
 use Rattle.bodies.proofs.ValidBodies.{ValidBody, between, valid-body}
 use Rattle.image.specs.Image.{versionOf, countOf, spiOf, positionOf, spiBefore, bodyAt, bodyOf, markIn, mostEntries, imageSize}
-use Rattle.image.specs.Image.{laidOut, entryOk, validImage}
+use Rattle.image.specs.Image.{layout, partAt, keyCount, keyIn, keyIdIn, laidOut, entryOk, partSpi, lastOk, keyedOk, keysOk, validImage}
+use Rattle.keys.specs.Keys.{active, mostKeys, keyPartOk}
+use Rattle.keys.proofs.FoundKeys.{ValidKeys, valid-keys}
 
 -- ---- the rules as facts
 
@@ -33,10 +35,18 @@ pub record ValidEntry (image : List ℕ) (i : ℕ) : Type 0 where
   pub position : positionOf image i ≡ bodyAt image i
   pub body : ValidBody (versionOf image) (bodyOf image i)
 
+-- every rule of a key part and of the bodies that name its keys
+pub record Keyed (image : List ℕ) : Type 0 where
+  pub spi : spiOf image (countOf image) ≡ partSpi
+  pub position : positionOf image (countOf image) ≡ partAt image
+  pub keys : ValidKeys image (partAt image) (keyCount image)
+  pub serves : (i : ℕ) → i < countOf image → stateOf (bodyOf image i) ≡ operational → keyIn image active (keyIdIn image i) ≡ true
+
 -- every rule of an image
 pub record Valid (image : List ℕ) : Type 0 where
   pub laid : LaidOut image
   pub entry : (i : ℕ) → i < countOf image → ValidEntry image i
+  pub keyed : layout image .keys ≡ true → Keyed image
 
 -- ---- the tests give the facts
 
@@ -49,7 +59,7 @@ laid-out image e =
       size = eqb-true (length image) (imageSize image) (search (and-left, and-right));
     }
 
-pub valid-entry : (image : List ℕ) (i : ℕ) → (entryOk image i && bodyOk (versionOf image) (bodyOf image i)) ≡ true → ValidEntry image i
+valid-entry : (image : List ℕ) (i : ℕ) → (entryOk image i && bodyOk (versionOf image) (bodyOf image i)) ≡ true → ValidEntry image i
 unfolding entryOk
 valid-entry image i e =
     record {
@@ -59,23 +69,68 @@ valid-entry image i e =
       body = valid-body (versionOf image) (bodyOf image i) (search (and-left, and-right));
     }
 
+-- every entry with its body passes
+abbrev pub ruled : List ℕ → ℕ → Bool
+ruled image i = entryOk image i && bodyOk (versionOf image) (bodyOf image i)
+
 pub valid-laid : (image : List ℕ) → validImage image ≡ true → laidOut image ≡ true
 unfolding validImage
-valid-laid image e = search and-left
+valid-laid image e = and-left (laidOut image) (all (countOf image) (ruled image)) (and-left _ (keysOk image) e)
+
+pub valid-ruled : (image : List ℕ) → validImage image ≡ true → (i : ℕ) → i < countOf image → ruled image i ≡ true
+unfolding validImage
+valid-ruled image e =
+    all-at (countOf image) (ruled image) (and-right (laidOut image) (all (countOf image) (ruled image)) (and-left _ (keysOk image) e))
+
+pub valid-keyed : (image : List ℕ) → validImage image ≡ true → keysOk image ≡ true
+unfolding validImage
+valid-keyed image e = and-right (laidOut image && all (countOf image) (ruled image)) (keysOk image) e
+
+-- each body passes the test on the key that it names
+pub valid-serving : (image : List ℕ) → validImage image ≡ true → layout image .keys ≡ true → (i : ℕ) → i < countOf image → keyedOk image i ≡ true
+unfolding keysOk
+valid-serving image e has =
+    let tests = lastOk image && keyPartOk image (partAt image) (keyCount image) in
+    let t : (tests && all (countOf image) (keyedOk image)) ≡ true = rw has at (valid-keyed image e) in
+    all-at (countOf image) (keyedOk image) (and-right tests (all (countOf image) (keyedOk image)) t)
+
+serves-keyed : (image : List ℕ) (i : ℕ) → keyedOk image i ≡ true → stateOf (bodyOf image i) ≡ operational
+    → keyIn image active (keyIdIn image i) ≡ true
+serves-keyed image i e serves = rw (eq-eqb (stateOf (bodyOf image i)) operational serves) at e
+
+keyed : (image : List ℕ) → keysOk image ≡ true → layout image .keys ≡ true → Keyed image
+unfolding keysOk
+keyed image e has =
+    let tests = lastOk image && keyPartOk image (partAt image) (keyCount image) && all (countOf image) (keyedOk image) in
+    let t : tests ≡ true = rw has at e in
+    record {
+      spi = eqb-true (spiOf image (countOf image)) partSpi (search (and-left, and-right));
+      position = eqb-true (positionOf image (countOf image)) (partAt image) (search (and-left, and-right));
+      keys = valid-keys image (partAt image) (keyCount image) (search (and-left, and-right));
+      serves = λ i h. serves-keyed image i (all-at (countOf image) (keyedOk image) (search (and-left, and-right)) i h);
+    }
 
 pub valid : (image : List ℕ) → validImage image ≡ true → Valid image
-unfolding validImage
 valid image e =
-    let ruled : ℕ → Bool = λ i. entryOk image i && bodyOk (versionOf image) (bodyOf image i) in
     record {
       laid = laid-out image (valid-laid image e);
-      entry = λ i h. valid-entry image i (all-at (countOf image) ruled (and-right (laidOut image) (all (countOf image) ruled) e) i h);
+      entry = λ i h. valid-entry image i (valid-ruled image e i h);
+      keyed = keyed image (valid-keyed image e);
     }
 
 -- the mark of an entry is below 2 ^ 26
 pub mark-small : (image : List ℕ) → Valid image → (i : ℕ) → i < countOf image → markIn image i < 2 ^ 26
 unfolding markIn
 mark-small image v i h = v .entry i h .body .mark
+
+-- there are at most 64 keys; without a key part there is none
+pub keys-few : (image : List ℕ) → validImage image ≡ true → keyCount image ≤ mostKeys
+unfolding keyCount
+keys-few image e = of (layout image .keys) refl
+  where
+    of : (t : Bool) → layout image .keys ≡ t → cond t (octet image (partAt image)) 0 ≤ mostKeys
+    of true has = rw has at (valid image e .keyed has .keys .few)
+    of false none = omega arith
 
 -- ---- the SPIs rise, so none stands twice
 

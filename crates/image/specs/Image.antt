@@ -1,14 +1,16 @@
--- Document 01, 'The image': a table of contents, then the bodies; where its parts stand, and every rule of it as one test, answer 1.
+-- Document 01, 'The image', and document 02, request 9: a table of contents, the bodies, then the key part, if the version has one; where its
+-- parts stand, and every rule of it as one test, answer 1.
 -- Assumes nothing.
 use Prim.Native.Nat.{ℕ, _+_, _-_, _*_}
-use mathlib.Core.Bool.{Bool, cond, _&&_}
+use mathlib.Core.Bool.{Bool, cond, not, _&&_, _||_}
 use mathlib.Core.List.{List}
 use lib.Dec.{eqb, leb, ltb}
 use lib.ListN.{length}
 use Rattle.octets.specs.Lists.{octet, part, all}
 use Rattle.octets.specs.Numbers.{numberAt}
-use Rattle.bodies.specs.Body.{bodyIn, markOf, bodyOk}
-use Rattle.bodies.specs.Layout.{keyLength, mostBody, mostExtra, layoutOf, versionOk}
+use Rattle.bodies.specs.Body.{bodyIn, stateOf, operational, keyIdOf, markOf, bodyOk}
+use Rattle.bodies.specs.Layout.{keyLength, mostBody, mostExtra, versionThree, layoutOf, versionOk}
+use Rattle.keys.specs.Keys.{active, mostKeys, partSize, keyIndex, keyInState, keyUnder, keyPartOk}
 use Rattle.bodies.specs.declared.layout.Layout.{Layout}
 
 -- ---- octets 0 and 1
@@ -39,7 +41,7 @@ positionOf image i = numberAt (entryPlace i + 2) 2 image
 abbrev pub layout : List ℕ → Layout
 layout image = layoutOf (versionOf image)
 
--- where body i stands in an image of k entries: the bodies begin behind the contents, and behind the last body the image ends
+-- where body i stands in an image of k entries: the bodies begin behind the contents
 abbrev pub bodyPlace : Layout → ℕ → ℕ → ℕ
 bodyPlace l k i = entryPlace (k + l .extra) + l .body * i
 
@@ -60,17 +62,44 @@ markAt image i = bodyAt image i + layout image .mark
 unfoldable pub markIn : List ℕ → ℕ → ℕ
 markIn image i = markOf (versionOf image) (bodyOf image i)
 
--- where the key of entry i stands, and the key
-unfoldable pub keyAt : List ℕ → ℕ → ℕ
-keyAt image i = bodyAt image i + layout image .key
+-- ---- the keys
 
+-- where the key part stands, if there is one: behind the last body. It opens with the count of its keys; an image without one has none
+unfoldable pub partAt : List ℕ → ℕ
+partAt image = bodyPlace (layout image) (countOf image) (countOf image)
+
+unfoldable pub keyCount : List ℕ → ℕ
+keyCount image = cond (layout image .keys) (octet image (partAt image)) 0
+
+-- the index of the key with an ID, and the count where none has it; and whether it is in a state
+abbrev pub keyWith : List ℕ → ℕ → ℕ
+keyWith image id = keyIndex image (partAt image) (keyCount image) id
+
+abbrev pub keyIn : List ℕ → ℕ → ℕ → Bool
+keyIn image state id = keyInState image (partAt image) (keyCount image) state id
+
+-- the ID that entry i names
+abbrev pub keyIdIn : List ℕ → ℕ → ℕ
+keyIdIn image i = keyIdOf (versionOf image) (bodyOf image i)
+
+-- the key of entry i: that of the key part which its body names, or the one in its body
 unfoldable pub keyOf : List ℕ → ℕ → List ℕ
-keyOf image i = part (keyAt image i) keyLength image
+keyOf image i =
+    cond (layout image .keys) (keyUnder image (partAt image) (keyCount image) (keyIdIn image i))
+    (part (bodyAt image i + layout image .key) keyLength image)
 
 -- ---- the rules
 
+-- the image ends behind the key part, or behind the last body
 unfoldable pub imageSize : List ℕ → ℕ
-imageSize image = bodyPlace (layout image) (countOf image) (countOf image)
+imageSize image = partAt image + cond (layout image .keys) (partSize (keyCount image)) 0
+
+-- the longest image of a layout, with as many entries and keys as there may be; version 3's is the longest of all
+abbrev pub longest : Layout → ℕ
+longest l = bodyPlace l mostEntries mostEntries + cond (l .keys) (partSize mostKeys) 0
+
+abbrev pub longestImage : ℕ
+longestImage = longest versionThree
 
 -- version, count, and exactly the size that they ask for
 unfoldable pub laidOut : List ℕ → Bool
@@ -91,5 +120,22 @@ entryOk image i =
     && ltb (spiBefore image i) (spiOf image i)
     && eqb (positionOf image i) (bodyAt image i)
 
+-- the entry of the contents that is outside the count: it names the key part
+abbrev pub partSpi : ℕ
+partSpi = 65535
+
+abbrev pub lastOk : List ℕ → Bool
+lastOk image = eqb (spiOf image (countOf image)) partSpi && eqb (positionOf image (countOf image)) (partAt image)
+
+-- an operational body names a key that is active; another may name any ID
+abbrev pub keyedOk : List ℕ → ℕ → Bool
+keyedOk image i = not (eqb (stateOf (bodyOf image i)) operational) || keyIn image active (keyIdIn image i)
+
+-- what a version with a key part asks for
+unfoldable pub keysOk : List ℕ → Bool
+keysOk image =
+    not (layout image .keys)
+    || (lastOk image && keyPartOk image (partAt image) (keyCount image) && all (countOf image) (keyedOk image))
+
 unfoldable pub validImage : List ℕ → Bool
-validImage image = laidOut image && all (countOf image) (λ i. entryOk image i && bodyOk (versionOf image) (bodyOf image i))
+validImage image = laidOut image && all (countOf image) (λ i. entryOk image i && bodyOk (versionOf image) (bodyOf image i)) && keysOk image

@@ -1,18 +1,32 @@
-// Document 01, 'The image': where its parts stand, and what is allowed.
+// Document 01, 'The image', and document 02, request 9: where its parts stand, and what is allowed.
 use bodies::Layout;
+use bodies::OPERATIONAL;
 use bodies::body_ok;
 use bodies::code_of;
+use bodies::key_id_of;
 use bodies::layout_of;
+use bodies::state_of;
 use bodies::version_ok;
+use keys::ACTIVE;
+use keys::key_in_state;
+use keys::key_index;
+use keys::key_part_ok;
+use keys::key_under;
+use keys::part_size;
 use marks::mark_of;
 use octets::copy_at;
 use octets::octet_at;
 use octets::two_at;
 ghost use mathlib.Core.Path.{_≡_};
-ghost use Prim.Native.Nat.{_≤_};
-ghost use Rattle.bodies.specs.Layout.{Lawful};
+ghost use Prim.Native.Nat.{_+_, _≤_};
+ghost use Rattle.octets.specs.Lists.{part, all};
+ghost use Rattle.bodies.specs.Layout.{keyLength, Lawful};
 ghost use Rattle.image.specs.Image.{versionOf, countOf, entryPlace, spiOf, positionOf, bodyPlace, farthest, bodyAt};
-ghost use Rattle.image.specs.Image.{markAt, markIn, keyAt, keyOf, imageSize, laidOut, spiBefore, entryOk, validImage};
+ghost use Rattle.image.specs.Image.{layout, markAt, markIn, partAt, keyCount, keyWith, keyIn, keyIdIn, keyOf, imageSize, laidOut, spiBefore, entryOk};
+ghost use Rattle.image.specs.Image.{lastOk, keyedOk, keysOk, validImage};
+
+// The octets of the longest image that there may be, one of version 3 with all its entries and keys.
+pub const LONGEST_IMAGE: usize = 3079;
 
 pub fn version_of(image: &[u8]) -> u8
     ensures { λ r. ⌜ r ≡ versionOf (now (image .entry)) ⌝ }
@@ -73,35 +87,90 @@ pub fn mark_in(image: &[u8], index: u8) -> u32
     mark_of(code_of(image, version_of(image), body_at(image, index)))
 }
 
-// Where the key of an entry stands, and the key.
-fn key_at(image: &[u8], index: u8) -> u16
-    ensures { λ r. ⌜ r ≡ keyAt (now (image .entry)) index ⌝ }
+// The keys. Whether they stand in a part of their own, where that part stands, and how many it has.
+pub fn has_part(image: &[u8]) -> bool
+    ensures { λ r. ⌜ r ≡ layout (now (image .entry)) .keys ⌝ }
 {
-    body_at(image, index) + layout_of(version_of(image)).key as u16
+    layout_of(version_of(image)).keys
 }
 
-pub fn key_of(image: &[u8], index: u8) -> [u8; 32]
-    ensures { λ r. ⌜ r ≡ keyOf (now (image .entry)) index ⌝ }
-{
-    let mut key: [u8; 32] = [0; 32];
-    copy_at(image, key_at(image, index) as usize, &mut key);
-    key
-}
-
-fn image_size(image: &[u8]) -> u16
-    ensures { λ r. ⌜ r ≡ imageSize (now (image .entry)) ⌝ }
+pub fn part_at(image: &[u8]) -> u16
+    ensures { λ r. ⌜ (r ≡ partAt (now (image .entry))) × (r ≤ farthest) ⌝ }
 {
     let count = count_of(image);
     body_place(layout_of(version_of(image)), count, count)
+}
+
+pub fn key_count(image: &[u8]) -> u8
+    ensures { λ r. ⌜ r ≡ keyCount (now (image .entry)) ⌝ }
+{
+    if has_part(image) {
+        return octet_at(image, part_at(image) as usize);
+    }
+    0
+}
+
+// The index of the key with an ID, and the count where none has it; and whether it is in a state.
+pub fn key_with(image: &[u8], id: u16) -> u8
+    ensures { λ r. ⌜ r ≡ keyWith (now (image .entry)) id ⌝ }
+{
+    key_index(image, part_at(image), key_count(image), id)
+}
+
+pub fn key_in(image: &[u8], state: u8, id: u16) -> bool
+    ensures { λ r. ⌜ r ≡ keyIn (now (image .entry)) state id ⌝ }
+{
+    key_in_state(image, part_at(image), key_count(image), state, id)
+}
+
+// The ID that an entry names.
+pub fn key_id_in(image: &[u8], index: u8) -> u16
+    ensures { λ r. ⌜ r ≡ keyIdIn (now (image .entry)) index ⌝ }
+{
+    key_id_of(image, version_of(image), body_at(image, index))
+}
+
+// The key in the body of an entry.
+fn key_in_body(image: &[u8], index: u8) -> [u8; 32]
+    ensures { λ r. ⌜ r ≡ part (bodyAt (now (image .entry)) index + layout (now (image .entry)) .key) keyLength (now (image .entry)) ⌝ }
+{
+    let mut key: [u8; 32] = [0; 32];
+    let at = body_at(image, index) + layout_of(version_of(image)).key as u16;
+    copy_at(image, at as usize, &mut key);
+    key
+}
+
+// The key of an entry: that of the key part which its body names, or the one in its body.
+pub fn key_of(image: &[u8], index: u8) -> [u8; 32]
+    ensures { λ r. ⌜ r ≡ keyOf (now (image .entry)) index ⌝ }
+{
+    if has_part(image) {
+        return key_under(
+            image,
+            part_at(image),
+            key_count(image),
+            key_id_in(image, index),
+        );
+    }
+    key_in_body(image, index)
+}
+
+// The image ends behind the key part, or behind the last body.
+fn image_size(image: &[u8]) -> usize
+    ensures { λ r. ⌜ r ≡ imageSize (now (image .entry)) ⌝ }
+{
+    let at = part_at(image) as usize;
+    if has_part(image) {
+        return at + part_size(key_count(image));
+    }
+    at
 }
 
 // Version, count, and exactly the size that they ask for.
 pub fn laid_out(image: &[u8]) -> bool
     ensures { λ r. ⌜ r ≡ laidOut (now (image .entry)) ⌝ }
 {
-    version_ok(version_of(image))
-        & (count_of(image) <= 32)
-        & (image.len() == image_size(image) as usize)
+    version_ok(version_of(image)) & (count_of(image) <= 32) & (image.len() == image_size(image))
 }
 
 // The SPI of the entry before, and 0 before the first.
@@ -124,7 +193,48 @@ fn entry_ok(image: &[u8], index: u8) -> bool
         & (position_of(image, index) == body_at(image, index))
 }
 
-// Every rule of the image, answer 1: its layout, and each entry with its body. All entries are tested, also behind one that breaks a rule.
+// The entry of the contents that is outside the count names the key part.
+fn last_ok(image: &[u8]) -> bool
+    ensures { λ r. ⌜ r ≡ lastOk (now (image .entry)) ⌝ }
+{
+    let count = count_of(image);
+    (spi_of(image, count) == 65535) & (position_of(image, count) == part_at(image))
+}
+
+// An operational body names a key that is active; another may name any ID.
+fn keyed_ok(image: &[u8], index: u8) -> bool
+    ensures { λ r. ⌜ r ≡ keyedOk (now (image .entry)) index ⌝ }
+{
+    let state = state_of(image, version_of(image), body_at(image, index));
+    !(state == OPERATIONAL) | key_in(image, ACTIVE, key_id_in(image, index))
+}
+
+fn bodies_keyed(image: &[u8]) -> bool
+    ensures { λ r. ⌜ r ≡ all (countOf (now (image .entry))) (keyedOk (now (image .entry))) ⌝ }
+{
+    let count = count_of(image);
+    let mut ok = true;
+    let mut i: u8 = 0;
+    while i < count {
+        ok = ok & keyed_ok(image, i);
+        i += 1;
+    }
+    ok
+}
+
+// What a version with a key part asks for.
+fn keys_ok(image: &[u8]) -> bool
+    ensures { λ r. ⌜ r ≡ keysOk (now (image .entry)) ⌝ }
+{
+    if has_part(image) {
+        return last_ok(image)
+            & key_part_ok(image, part_at(image), key_count(image))
+            & bodies_keyed(image);
+    }
+    true
+}
+
+// Every rule of the image, answer 1: its layout, each entry with its body, and the keys. All are tested, also behind one that breaks a rule.
 pub fn image_ok(image: &[u8]) -> bool
     ensures { λ r. ⌜ r ≡ validImage (now (image .entry)) ⌝ }
 {
@@ -136,5 +246,5 @@ pub fn image_ok(image: &[u8]) -> bool
         ok = ok & (entry_ok(image, i) & body_ok(image, version, body_at(image, i)));
         i += 1;
     }
-    ok
+    ok & keys_ok(image)
 }

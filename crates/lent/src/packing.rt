@@ -32,5 +32,7 @@ pub fn pack(answer: Answer) -> u64
         Answer::UnknownSpi => word(14, 0, 0),
         Answer::WrongState => word(15, 0, 0),
         Answer::BadValue => word(16, 0, 0),
+        Answer::UnknownKey => word(17, 0, 0),
+        Answer::WrongKeyState => word(18, 0, 0),
     }
 }

@@ -8,7 +8,7 @@ use mathlib.Core.List.{List, []}
 use Rattle.kinds.specs.Kinds.{Kind, framed}
 use Rattle.kinds.specs.declared.framing.Framing.{Framing}
 use Rattle.image.specs.Image.{bodyOf, keyOf}
-use Rattle.association.specs.Association.{Association, associationOf, held, heldIn, theOne, indexOf}
+use Rattle.association.specs.Association.{Association, associationOf, namingOf, held, heldIn, theOne, indexOf}
 use Rattle.numbers.specs.Numbers.{numberOf}
 use Rattle.association.specs.declared.held.Held.{Held}
 use Rattle.association.specs.declared.search.Found.{Found}
@@ -29,7 +29,7 @@ use Rattle.link.specs.Steps.{sendingReply, receivingReply}
 -- ---- what a call reads of an entry is what its association holds
 
 module _ (image last : List ℕ) (i : ℕ) where
-  pub held-under : held (bodyOf image i) (keyOf image i) ≡ heldIn (associationOf image last i)
+  pub held-under : held (bodyOf image i) (keyOf image i) (namingOf image i) ≡ heldIn (associationOf image last i)
   unfolding associationOf
   held-under = refl
 
@@ -37,7 +37,7 @@ module _ (image last : List ℕ) (i : ℕ) where
   unfolding associationOf
   number-under = refl
 
-  module _ (h : Held) (l : ℕ) (eh : h ≡ held (bodyOf image i) (keyOf image i)) (el : l ≡ numberOf last i) where
+  module _ (h : Held) (l : ℕ) (eh : h ≡ held (bodyOf image i) (keyOf image i) (namingOf image i)) (el : l ≡ numberOf last i) where
     pub sending-judged : (k : Kind) (spi : ℕ) (frame : List ℕ) (room : ℕ)
         → sendingJudged image i h l k frame room ≡ judgement (sendingReply image last i k spi frame room)
     sending-judged k spi frame room = rw (eh, el, held-under, number-under)

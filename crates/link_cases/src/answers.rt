@@ -23,6 +23,8 @@ fn number_of(answer: Answer) -> u64 {
         Answer::UnknownSpi => 14,
         Answer::WrongState => 15,
         Answer::BadValue => 16,
+        Answer::UnknownKey => 17,
+        Answer::WrongKeyState => 18,
     }
 }
 

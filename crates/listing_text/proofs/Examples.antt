@@ -10,8 +10,9 @@ use Rattle.kinds.specs.Kinds.{named}
 use Rattle.association.specs.Association.{entryOf}
 use Rattle.bodies.specs.Body.{bodyIn, bodyOk}
 use Rattle.bodies.specs.Layout.{layoutOf}
+use Rattle.keys.specs.Keys.{keyPartOk}
 use Rattle.marks.specs.Gray.{decoded}
-use Rattle.image.specs.Image.{bodyAt, bodyOf, imageSize, laidOut, entryOk, validImage, markIn}
+use Rattle.image.specs.Image.{bodyAt, bodyOf, partAt, keyCount, imageSize, laidOut, entryOk, keysOk, validImage, markIn}
 use Rattle.writing.specs.Text.{ascii, digits, decimal}
 use Rattle.listing_text.specs.Listing.{field, fields, next, line, lines, listing}
 
@@ -24,17 +25,22 @@ caseB =
     ++ replicate 42 0
 
 case-b : listing caseB ≡ ascii "spi service kind direction state window next\n9 1 1 1 2 100 64\n"
-unfolding caseB listing lines line next fields field digits entryOf validImage laidOut imageSize entryOk bodyOk bodyOf bodyIn bodyAt layoutOf markIn named decoded
+unfolding caseB listing lines line next fields field digits entryOf validImage laidOut imageSize entryOk bodyOk bodyOf bodyIn bodyAt partAt keyCount keysOk layoutOf markIn named decoded
     number part tab all
 case-b = refl
 
 -- case A: no entry, and so no line but the title
 case-a : listing (1 ∷ 0 ∷ []) ≡ ascii "spi service kind direction state window next\n"
-unfolding listing lines validImage laidOut imageSize layoutOf all
+unfolding listing lines validImage laidOut imageSize partAt keyCount keysOk layoutOf all
 case-a = refl
 
+-- the smallest image of version 3: no entry but the key part's, and no key
+version-three : listing (3 ∷ 0 ∷ 255 ∷ 255 ∷ 0 ∷ 6 ∷ 0 ∷ []) ≡ ascii "spi service kind direction state window next\n"
+unfolding listing lines validImage laidOut imageSize partAt keyCount keysOk keyPartOk layoutOf number all
+version-three = refl
+
 no-octets : listing [] ≡ ascii "refused 1\n"
-unfolding listing validImage laidOut imageSize layoutOf
+unfolding listing validImage laidOut imageSize partAt keyCount keysOk layoutOf
 no-octets = refl
 
 -- the greatest mark that leaves a number, and the one that leaves none (case K)

@@ -70,7 +70,7 @@ fn put_lines(image: &[u8], out: &mut [u8]) -> usize
     at
 }
 
-// The listing; a refused image, which an input over 1,794 octets is too, has the one line.
+// The listing; a refused image, which an input longer than every image is too, has the one line.
 pub(crate) fn put_listing(image: &[u8], out: &mut [u8]) -> usize
     requires { ⌜ 1197 ≤ length (now out) ⌝ }
     ensures { λ r. ⌜ Put (now (out .entry)) 0 (listing (now (image .entry))) (now (out .exit)) r ⌝ }

@@ -1,4 +1,4 @@
--- Document 01, 'Managed numbers', and document 02, request 5: octet stores. A plan says by rule how many there are and what each one is;
+-- Document 01, 'Managed numbers', and document 02, requests 5 and 9: octet stores. A plan says by rule how many there are and what each one is;
 -- they are made in order, and a cut leaves the first j of them.
 -- Assumes nothing.
 use Prim.Native.Nat.{ℕ, zero, suc, _+_, _-_, _*_, _/_, _%_, _^_}
@@ -40,6 +40,7 @@ abbrev pub storesIn : Plan → ℕ
 storesIn plan.Nothing = 0
 storesIn (plan.One s) = 1
 storesIn (plan.Two s t) = 2
+storesIn (plan.Three s t u) = 3
 storesIn (plan.Raise at from to) = to - from
 
 -- store i of them
@@ -47,6 +48,7 @@ abbrev pub storeAt : Plan → ℕ → Store
 storeAt plan.Nothing i = record { at = 0; value = 0 }
 storeAt (plan.One s) i = s
 storeAt (plan.Two s t) i = cond (eqb i 0) s t
+storeAt (plan.Three s t u) i = cond (eqb i 0) s (cond (eqb i 1) t u)
 storeAt (plan.Raise at from to) i = raisingStore at from i
 
 -- the list f 0, f 1, .., f (n - 1)

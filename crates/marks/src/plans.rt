@@ -1,4 +1,4 @@
-// Document 01, 'Managed numbers', and document 02, request 5: octet stores by plan, and the first j of them.
+// Document 01, 'Managed numbers', and document 02, requests 5 and 9: octet stores by plan, and the first j of them.
 use crate::gray::gray_of;
 ghost use mathlib.Core.Path.{_≡_};
 ghost use Prim.Native.Nat.{_+_, _-_, _<_, _^_, min};
@@ -16,9 +16,10 @@ pub struct Store {
 // What a call stores, before any of it is stored.
 pub enum Plan {
     Nothing,
-    // An octet; two octets, one behind the other in time.
+    // An octet; two or three octets, one behind the other in time.
     One(Store),
     Two(Store, Store),
+    Three(Store, Store, Store),
     // The mark at a place is raised from one value to another, one at a time.
     Raise { at: u16, from: u32, to: u32 },
 }
@@ -67,6 +68,7 @@ fn stores_in(plan: Plan) -> u32
         Plan::Nothing => 0,
         Plan::One(_) => 1,
         Plan::Two(_, _) => 2,
+        Plan::Three(_, _, _) => 3,
         Plan::Raise { at: _, from, to } => less(to, from),
     }
 }
@@ -89,6 +91,18 @@ fn either(i: u32, first: Store, second: Store) -> Store
     second
 }
 
+fn one_of(i: u32, first: Store, second: Store, third: Store) -> Store
+    ensures { λ r. ⌜ r ≡ cond (eqb i 0) first (cond (eqb i 1) second third) ⌝ }
+{
+    if i == 0 {
+        return first;
+    }
+    if i == 1 {
+        return second;
+    }
+    third
+}
+
 fn store_at(plan: Plan, i: u32) -> Store
     requires { ⌜ i < storesIn plan ⌝ }
     ensures { λ r. ⌜ r ≡ storeAt plan i ⌝ }
@@ -97,6 +111,7 @@ fn store_at(plan: Plan, i: u32) -> Store
         Plan::Nothing => Store { at: 0, value: 0 },
         Plan::One(store) => store,
         Plan::Two(first, second) => either(i, first, second),
+        Plan::Three(first, second, third) => one_of(i, first, second, third),
         Plan::Raise { at, from, to: _ } => raise_at(at, from + i),
     }
 }

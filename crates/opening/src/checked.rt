@@ -58,7 +58,8 @@ pub fn number_of(opening: Opening, frame: &[u8]) -> Sequence
     let service = opening.held.service;
     let header = opening.parts.header;
     let security = opening.parts.security;
-    number_in(service, &frame[header..security])
+    let naming = opening.held.naming;
+    number_in(service, naming, &frame[header..security])
 }
 
 // The whole MAC is compared, with no early exit.

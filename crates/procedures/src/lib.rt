@@ -1,16 +1,14 @@
-// Document 02, request 5: the procedures that a command may call: what each asks, stores and replies. Nothing is changed but the output that a
-// reply is written to.
-mod plans;
+// Document 02, requests 5 and 9: the procedures that a command may call, and what each asks, of its value, of the association and of the key
+// that it names. Nothing is changed. Crate `plans` has what it stores, and crate `replies` what it replies.
+mod named;
 mod procedure;
-mod replies;
 mod tags;
 mod values;
 
-pub use plans::plan_of;
+pub use named::key_known;
+pub use named::key_ready;
 pub use procedure::Called;
 pub use procedure::Procedure;
-pub use replies::reply_size;
-pub use replies::write_reply;
 pub use tags::called_by;
 pub use values::allowed;
 pub use values::new_number;

@@ -19,6 +19,9 @@ pub enum Procedure {
     Status,
     ReadNumber,
     Ping,
+    Activation,
+    Deactivation,
+    Inventory,
 }
 
 pub enum Called {
@@ -40,6 +43,9 @@ pub(crate) fn with_tag(tag: u8) -> Called
         0x1F => Called::Procedure(Procedure::Status),
         0x10 => Called::Procedure(Procedure::ReadNumber),
         0x31 => Called::Procedure(Procedure::Ping),
+        0x02 => Called::Procedure(Procedure::Activation),
+        0x03 => Called::Procedure(Procedure::Deactivation),
+        0x07 => Called::Procedure(Procedure::Inventory),
         _ => Called::Nothing,
     }
 }
@@ -73,6 +79,9 @@ impl Procedure {
             Procedure::Status => n == SPI,
             Procedure::ReadNumber => n == SPI,
             Procedure::Ping => n == 0,
+            Procedure::Activation => n == KEY_ID,
+            Procedure::Deactivation => n == KEY_ID,
+            Procedure::Inventory => n == KEY_ID + KEY_ID,
         }
     }
 
@@ -89,6 +98,9 @@ impl Procedure {
             Procedure::Status => true,
             Procedure::ReadNumber => true,
             Procedure::Ping => false,
+            Procedure::Activation => false,
+            Procedure::Deactivation => false,
+            Procedure::Inventory => false,
         }
     }
 
@@ -105,6 +117,9 @@ impl Procedure {
             Procedure::Status => true,
             Procedure::ReadNumber => true,
             Procedure::Ping => true,
+            Procedure::Activation => true,
+            Procedure::Deactivation => true,
+            Procedure::Inventory => true,
         }
     }
 }

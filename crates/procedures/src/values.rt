@@ -1,5 +1,6 @@
 // The value of a command: whether it may be carried out, and the number that the association then has.
 use crate::procedure::Procedure;
+use bodies::layout_of;
 use bodies::window_fits;
 use bodies::window_of;
 use command_form::KEY_ID;
@@ -9,18 +10,15 @@ use image::body_at;
 use image::version_of;
 use octets::four_at;
 use octets::two_at;
-use security_header::number_in;
+use security_header::long_number;
 use verdicts::accepts;
 ghost use mathlib.Core.Path.{_≡_};
 ghost use mathlib.Core.List.{[]};
 ghost use lib.Dec.{eqb};
 ghost use Rattle.image.specs.Image.{versionOf, bodyOf};
 ghost use Rattle.command_form.specs.Form.{numberBehindKey};
-ghost use Rattle.procedures.specs.Procedures.{start, setNumber, procedureIs};
+ghost use Rattle.procedures.specs.Procedures.{start, rekey, setNumber, procedureIs};
 ghost use Rattle.procedures.specs.Steps.{Renumbered};
-
-// The service whose security header has its number in twelve octets behind the SPI, as a set number has it.
-const ENCRYPTING: u8 = 2;
 
 // The most by which a number may be set higher.
 const MOST_RISE: u16 = 1024;
@@ -42,11 +40,18 @@ fn number_is_0(value: &[u8]) -> bool
     (four_at(value, at) == 0) & (four_at(value, at + 4) == 0) & (four_at(value, at + 8) == 0)
 }
 
+// A rekey: no number, and in a version without a key part no key's ID.
+fn rekey_allowed(version: u8, value: &[u8]) -> bool
+    ensures { λ r. ⌜ r ≡ rekey .allows version [] 0 (now (value .entry)) ⌝ }
+{
+    (layout_of(version).keys | (two_at(value, SPI) == 0)) & number_is_0(value)
+}
+
 // A set number: above the last, by no more than a set number may rise, and not above the greatest.
 fn rise_allowed(last: u32, value: &[u8]) -> bool
     ensures { λ r. ⌜ r ≡ setNumber .allows 0 [] last (now (value .entry)) ⌝ }
 {
-    accepts(last, MOST_RISE, number_in(ENCRYPTING, value))
+    accepts(last, MOST_RISE, long_number(value))
 }
 
 pub fn allowed(procedure: Procedure, image: &[u8], entry: u8, last: u32, value: &[u8]) -> bool
@@ -55,13 +60,16 @@ pub fn allowed(procedure: Procedure, image: &[u8], entry: u8, last: u32, value: 
     match procedure {
         Procedure::Start => start_allowed(image, entry, value),
         Procedure::Stop => true,
-        Procedure::Rekey => (two_at(value, SPI) == 0) & number_is_0(value),
+        Procedure::Rekey => rekey_allowed(version_of(image), value),
         Procedure::Expire => true,
         Procedure::SetNumber => rise_allowed(last, value),
         Procedure::SetWindow => window_fits(two_at(value, SPI)),
         Procedure::Status => true,
         Procedure::ReadNumber => true,
         Procedure::Ping => true,
+        Procedure::Activation => true,
+        Procedure::Deactivation => true,
+        Procedure::Inventory => true,
     }
 }
 
@@ -69,7 +77,7 @@ pub fn allowed(procedure: Procedure, image: &[u8], entry: u8, last: u32, value: 
 fn number_asked(last: u32, value: &[u8]) -> u32
     ensures { λ r. ⌜ Renumbered setNumber last (now (value .entry)) r ⌝ }
 {
-    number_in(ENCRYPTING, value).number
+    long_number(value).number
 }
 
 pub fn new_number(procedure: Procedure, last: u32, value: &[u8]) -> u32
@@ -85,5 +93,8 @@ pub fn new_number(procedure: Procedure, last: u32, value: &[u8]) -> u32
         Procedure::Status => last,
         Procedure::ReadNumber => last,
         Procedure::Ping => last,
+        Procedure::Activation => last,
+        Procedure::Deactivation => last,
+        Procedure::Inventory => last,
     }
 }

@@ -2,12 +2,14 @@
 -- holds the SPI, the number, a right MAC, the clear data, the clear frame's control field and a right check field, under any service and any
 -- kind.
 -- Assumes nothing.
-use Prim.Native.Nat.{ℕ, _+_, _^_, _≤_, _<_}
+use Prim.Native.Nat.{ℕ, _+_, _-_, _^_, _≤_, _<_}
 use mathlib.Core.Path.{_≡_, sym, ap, ap₂, _∙_}
-use mathlib.Core.Bool.{true, false}
+use mathlib.Core.Bool.{true, false, cond}
 use mathlib.Core.List.{List, _++_, append-assoc}
 use native.Mathlib.Omega.{arith}
+use native.Mathlib.Nat.{add-zero}
 use borrow.Author.Tests.{le-ltb}
+use lib.Dec.{eqb}
 use lib.ListN.{length, take, drop, length-append}
 use lib.Seq.{slice, drop-at, getD-drop, getD-take}
 use Rattle.octets.specs.Lists.{octet}
@@ -26,26 +28,41 @@ use Rattle.frame.proofs.Rebuilt.{obeys-again}
 use Rattle.frame.proofs.Closed.{madeField, length-made, length-control, closed-ok, closed-assembled}
 use Rattle.frame.proofs.Room.{Obeys, obeyed, length-header}
 use Rattle.association.specs.declared.held.Held.{Held}
-use Rattle.services.specs.SecurityHeader.{serviceIn, securityLength, fieldFor, numberFrom}
+use Rattle.services.specs.SecurityHeader.{serviceIn, securityLength, fieldUnder, fieldFor, numberUnder, numberFrom}
+use Rattle.services.specs.Services.{service as numbered}
 use Rattle.protection.specs.Protection.{coveredBefore, securedLength, securedFrame}
 use Rattle.protection.specs.Protection.{coveredIn, spiIn, fieldIn, textIn, numberIn, macRight, clearData, clearLength}
-use Rattle.services.proofs.ServiceLaws.{Lawful, lawful}
+use Rattle.services.proofs.ServiceLaws.{Lawful, lawful, length-field, number-back, alike-field}
 
 -- ---- where a reader finds the number, in any frame, and how long the clear data is
 
-pub number-read : (h : Held) (k : Kind) (frame : List ℕ) → numberIn h k frame ≡ numberAt (k .header frame + 2) (serviceIn h .field) frame
-unfolding numberIn fieldIn securityOf
-number-read h k frame =
-    let a : ℕ = k .header frame in
-    let b : ℕ = a + securityLength h in
-    number-same (serviceIn h .field) (drop 2 (slice a b frame)) (drop (a + 2) frame)
+in-field : (a size : ℕ) (frame : List ℕ) (from n : ℕ) → from + n ≤ size
+    → number n (drop from (drop 2 (slice a (a + (2 + size)) frame))) ≡ numberAt (a + 2 + from) n frame
+in-field a size frame from n h =
+    let b : ℕ = a + (2 + size) in
+    number-same n (drop from (drop 2 (slice a b frame))) (drop (a + 2 + from) frame)
     (λ i l.
-    let z : a + (2 + i) ≡ a + 2 + i = omega arith in
-    getD-drop 2 (slice a b frame) i 0
-    ∙ getD-drop a (take b frame) (2 + i) 0
-    ∙ getD-take b frame (a + (2 + i)) 0 (omega arith)
+    let z : a + (2 + (from + i)) ≡ a + 2 + from + i = omega arith in
+    getD-drop from (drop 2 (slice a b frame)) i 0
+    ∙ getD-drop 2 (slice a b frame) (from + i) 0
+    ∙ getD-drop a (take b frame) (2 + (from + i)) 0
+    ∙ getD-take b frame (a + (2 + (from + i))) 0 (omega arith)
     ∙ ap (octet frame) z
-    ∙ sym (getD-drop (a + 2) frame i 0))
+    ∙ sym (getD-drop (a + 2 + from) frame i 0))
+
+pub number-read : (h : Held) (k : Kind) (frame : List ℕ) → let s = serviceIn h in let a = k .header frame + 2 in
+    numberIn h k frame
+    ≡ cond (eqb (numberAt a (s .named) frame) (number (s .named) (bytes (s .named) (h .naming)))) (numberAt (a + s .named) (s .field - s .named) frame) 0
+unfolding numberIn fieldIn securityOf numberUnder
+number-read h k frame =
+    let s = serviceIn h in
+    let a : ℕ = k .header frame in
+    let l : Lawful s = lawful (h .service) in
+    let opening : number (s .named) (drop 2 (slice a (a + (2 + s .field)) frame)) ≡ numberAt (a + 2) (s .named) frame =
+    in-field a (s .field) frame 0 (s .named) (omega arith) ∙ ap (λ (p : ℕ). numberAt p (s .named) frame) (add-zero (a + 2))
+    in
+    ap₂ (λ (x y : ℕ). cond (eqb x (number (s .named) (bytes (s .named) (h .naming)))) y 0) opening
+    (in-field a (s .field) frame (s .named) (s .field - s .named) (omega arith))
 
 -- the clear data is as long as the data that came in
 pub length-clear-data : (h : Held) (k : Kind) (frame : List ℕ) → length (clearData h k frame) ≡ clearLength h k frame
@@ -83,7 +100,7 @@ as-assembled h k spi n clear =
     closed-assembled k (head h k clear) (security h spi n) (text h k n clear) (mac h k spi n clear) (controlOf k clear)
 
 pub length-security : (h : Held) (spi n : ℕ) → length (security h spi n) ≡ securityLength h
-length-security h spi n = length-append (bytes 2 spi) (fieldFor h n) ∙ ap₂ _+_ (length-bytes 2 spi) (length-bytes (serviceIn h .field) n)
+length-security h spi n = length-append (bytes 2 spi) (fieldFor h n) ∙ ap₂ _+_ (length-bytes 2 spi) (length-field (serviceIn h) (lawful (h .service)) (h .naming) n)
 
 pub length-text : (h : Held) (k : Kind) (n : ℕ) (clear : List ℕ) → length (text h k n clear) ≡ length (parts.clearContent k clear)
 length-text h k n clear = lawful (h .service) .lengthOut (h .key) (fieldFor h n) (parts.clearContent k clear)
@@ -220,7 +237,7 @@ module _ (h : Held) (k : Kind) (lawfully : frames.Lawful k) (spi n : ℕ) (clear
 
   pub number-secured : n < 2 ^ 32 → numberIn h k S ≡ n
   unfolding numberIn
-  number-secured small-number = ap (numberFrom h) field-read ∙ number-bytes (serviceIn h .field) n (law .holds n small-number)
+  number-secured small-number = ap (numberFrom h) field-read ∙ number-back (serviceIn h) law (h .naming) n small-number
 
   pub data-secured : clearData h k S ≡ parts.clearContent k clear
   unfolding clearData
@@ -244,9 +261,13 @@ module _ (h : Held) (k : Kind) (lawfully : frames.Lawful k) (spi n : ℕ) (clear
       ∙ number-front 2 (bytes 2 spi) _ (length-bytes 2 spi)
       ∙ number-bytes 2 spi (omega arith)
 
--- ---- what an association holds beside service, mask and key does not show in a frame
+-- ---- what an association holds beside service, mask, key and, under service 2, what names it does not show in a frame
 
 pub alike-frame : (h g : Held) (k : Kind) (spi n : ℕ) (clear : List ℕ) → g .service ≡ h .service → g .mask ≡ h .mask → g .key ≡ h .key
-    → securedFrame h k spi n clear ≡ securedFrame g k spi n clear
+    → (h .service ≡ 2 → g .naming ≡ h .naming) → securedFrame h k spi n clear ≡ securedFrame g k spi n clear
 unfolding securedFrame coveredBefore
-alike-frame h g k spi n clear service mask key = cc
+alike-frame h g k spi n clear service mask key naming =
+    let field : fieldFor g n ≡ fieldFor h n =
+    ap (λ (x : ℕ). fieldUnder (numbered x) (g .naming) n) service ∙ alike-field (h .service) (g .naming) (h .naming) n naming
+    in
+    cc

@@ -26,14 +26,15 @@ pub record Taken (x : List ℕ) : Type 0 where
   pub version : versionOk (versionOf x) ≡ true
   pub body : layout x .body ≡ 52
   pub extra : layout x .extra ≡ 0
+  pub keys : layout x .keys ≡ false
   pub count : countOf x ≤ mostEntries
 
--- both versions have bodies of one size, behind contents of as many entries as are counted
-one-or-two : (v : ℕ) → (eqb v 1 || eqb v 2) ≡ true → (versionOk v ≡ true) × (layoutOf v .body ≡ 52) × (layoutOf v .extra ≡ 0)
+-- both versions have bodies of one size, behind contents of as many entries as are counted, and no key part
+one-or-two : (v : ℕ) → (eqb v 1 || eqb v 2) ≡ true → (versionOk v ≡ true) × (layoutOf v .body ≡ 52) × (layoutOf v .extra ≡ 0) × (layoutOf v .keys ≡ false)
 unfolding layoutOf
 one-or-two zero e = let z : _≡_ {A = ℕ} 0 1 = cc in absurd (omega arith)
-one-or-two (suc zero) e = (refl, refl, refl)
-one-or-two (suc (suc zero)) e = (refl, refl, refl)
+one-or-two (suc zero) e = (refl, refl, refl, refl)
+one-or-two (suc (suc zero)) e = (refl, refl, refl, refl)
 one-or-two (suc (suc (suc n))) e =
     let other : ℕ = suc (suc (suc n)) in
     let none : (eqb other 1 || eqb other 2) ≡ false = rw (ne-eqb other 1 (omega arith), ne-eqb other 2 (omega arith)) in
@@ -49,6 +50,7 @@ taken x e =
       version = v .0;
       body = v .1;
       extra = v .2;
+      keys = v .3;
       count = leb-true (countOf x) mostEntries (search (and-left, and-right) depth 9);
     }
 

@@ -10,16 +10,16 @@ use native.Mathlib.Omega.{arith}
 use borrow.Author.Tests.{le-leb, lt-ltb, le-ltb, eq-eqb, ne-eqb}
 use lib.Dec.{eqb, ltb}
 use lib.ListN.{length}
-use Rattle.octets.specs.Lists.{octet, part, tab, all, Octets}
+use Rattle.octets.specs.Lists.{octet, part, tab, Octets}
 use Rattle.octets.specs.Numbers.{numberAt, bytes}
-use Rattle.octets.proofs.Alls.{and-right, all-at}
+use Rattle.octets.proofs.Alls.{and-right}
 use Rattle.octets.proofs.Parts.{tab-self, tab-add}
 use Rattle.octets.proofs.Reading.{numberAt-two}
 use Rattle.octets.proofs.Rules.{length-tab, octet-tab, tab-ext}
 use Rattle.bodies.specs.Body.{bodyIn, bodyOk}
-use Rattle.image.specs.Image.{versionOf, countOf, entryPlace, spiOf, positionOf, layout, bodyAt, bodyOf, imageSize}
-use Rattle.image.specs.Image.{laidOut, entryOk, validImage}
-use Rattle.image.proofs.ValidImages.{Valid, valid, spi-rises}
+use Rattle.image.specs.Image.{versionOf, countOf, entryPlace, spiOf, positionOf, layout, bodyAt, bodyOf, partAt, imageSize}
+use Rattle.image.specs.Image.{entryOk, validImage}
+use Rattle.image.proofs.ValidImages.{Valid, valid, valid-ruled, spi-rises}
 use Rattle.writing.specs.Text.{endToEnd}
 use Rattle.writing.proofs.Ends.{end-same, end-empty, end-part}
 use Rattle.salvage_entries.specs.Tests.{someOf, howMany}
@@ -74,19 +74,15 @@ module _ (x : List ℕ) (ok : Taken x) (passed : validImage x ≡ true) where
   v = valid x passed
 
   body-ok : (i : ℕ) → i < countOf x → bodyOk (versionOf x) (bodyOf x i) ≡ true
-  unfolding validImage
-  body-ok i h =
-      let ruled : ℕ → Bool = λ j. entryOk x j && bodyOk (versionOf x) (bodyOf x j) in
-      and-right (entryOk x i) (bodyOk (versionOf x) (bodyOf x i))
-      (all-at (countOf x) ruled (and-right (laidOut x) (all (countOf x) ruled) passed) i h)
+  body-ok i h = and-right (entryOk x i) (bodyOk (versionOf x) (bodyOf x i)) (valid-ruled x passed i h)
 
   place : (i : ℕ) → i < countOf x → positionOf x i ≡ 2 + 4 * countOf x + 52 * i
   unfolding bodyAt
   place i h = v .entry i h .position ∙ rw (ok .body, ok .extra) (omega arith)
 
   size : length x ≡ 2 + 56 * countOf x
-  unfolding imageSize
-  size = v .laid .size ∙ rw (ok .body, ok .extra) (omega arith)
+  unfolding imageSize partAt
+  size = v .laid .size ∙ rw (ok .body, ok .extra, ok .keys) (omega arith)
 
   body-there : (i : ℕ) → i < countOf x → bodyThere x i ≡ bodyOf x i
   unfolding bodyOf

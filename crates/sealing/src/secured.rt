@@ -92,7 +92,7 @@ pub fn write_secured(
 {
     let number = held.service;
     let security = security_length(number);
-    let octets = security_header(number, spi, n);
+    let octets = security_header(number, held.naming, spi, n);
     let parts = clear_parts(framing, frame);
     let header = parts.header;
     let content = parts.content;

@@ -1,5 +1,6 @@
--- Document 01, 'Frames': the two services. Behind the SPI the security header has a field that holds the sequence number. What a service
--- makes of a frame's data depends on the key, on that field, and for the MAC on what stands before the data.
+-- Document 01, 'Frames', and document 02, request 9: the two services. Behind the SPI the security header has a field that holds the sequence
+-- number, and before it, under service 2, four octets that name the association. What a service makes of a frame's data depends on the key,
+-- on that field, and for the MAC on what stands before the data.
 -- Assumes nothing.
 use Prim.Native.Nat.{ℕ}
 use mathlib.Core.Bool.{cond}
@@ -10,8 +11,9 @@ use Rattle.gcm.specs.Encryption.{ciphertext, tag}
 use Rattle.gcm.specs.Decryption.{plaintext}
 
 pub record Service : Type 0 where
-  -- the octets of the field
+  -- the octets of the field, and how many of them, the first ones, name the association
   pub field : ℕ
+  pub named : ℕ
   -- from key, field and clear data, the data as it goes out; and back
   pub goingOut : List ℕ → List ℕ → List ℕ → List ℕ
   pub comingIn : List ℕ → List ℕ → List ℕ → List ℕ
@@ -23,17 +25,19 @@ abbrev pub authentication : Service
 authentication =
     record {
       field = 4;
+      named = 0;
       goingOut = λ key field clear. clear;
       comingIn = λ key field text. text;
       mac = λ key field before text. cmac key (before ++ text);
     }
 
--- service 2, authenticated encryption: GCM with the field as its IV, what stands before the data as additional data, and the clear data as
+-- service 2, authenticated encryption: GCM with the field, of 12 octets, as its IV, what stands before the data as additional data, and the clear data as
 -- plaintext
 abbrev pub authenticatedEncryption : Service
 authenticatedEncryption =
     record {
       field = 12;
+      named = 4;
       goingOut = λ key field clear. ciphertext key field clear;
       comingIn = λ key field text. plaintext key field text;
       mac = λ key field before text. tag key field before text;

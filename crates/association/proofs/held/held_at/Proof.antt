@@ -10,13 +10,14 @@ returns : tie.Need-returns
 unfolding held bodyOf
 returns c =
     rw (
-      c .key-of .ensures,
-      c .before .mask-of .ensures,
-      c .before .before .window-of .ensures,
-      c .before .before .before .service-of .ensures,
-      c .before .before .before .before .body-at .ensures .0,
-      c .before .before .before .before .before .version-of .ensures,
+      c .naming-of .ensures,
+      c .before .key-of .ensures,
+      c .before .before .mask-of .ensures,
+      c .before .before .before .window-of .ensures,
+      c .before .before .before .before .service-of .ensures,
+      c .before .before .before .before .before .body-at .ensures .0,
+      c .before .before .before .before .before .before .version-of .ensures,
     )
 
 pub held-at-spec : {M : Type 1} → statement M
-held-at-spec = tie.close (tie.spec (λ c κs. search needs) (λ c κs. search needs) (λ c κs. search needs) (λ c κs. search needs) (λ c κs. search needs) (λ c κs. search needs) returns)
+held-at-spec = tie.close (tie.spec (λ c κs. search needs) (λ c κs. search needs) (λ c κs. search needs) (λ c κs. search needs) (λ c κs. search needs) (λ c κs. search needs) (λ c κs. search needs) returns)

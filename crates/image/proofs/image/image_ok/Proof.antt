@@ -1,4 +1,4 @@
--- `image_ok` is right because each turn joins the tests of one entry more to those of the layout.
+-- `image_ok` is right because each turn joins the tests of one entry more to those of the layout, and behind the loop come those of the keys.
 -- Assumes nothing.
 use mathlib.Core.Path.{_≡_, sym, _∙_}
 use Prim.Native.Nat.{_-_, _≤_}
@@ -43,11 +43,11 @@ loop-again c =
 returns : tie.Need-returns Inv-loop μ-loop
 unfolding validImage
 returns c =
-    let e : c .before .loop .i ≡ countOf (c .before .before .before .before .before .before .args .image .now) = omega arith in
-    rw (← e) (c .before .loop .inv .1)
+    let e : c .before .before .loop .i ≡ countOf (c .before .before .before .before .before .before .before .args .image .now) = omega arith in
+    rw (← e, c .keys-ok .ensures, c .before .before .loop .inv .1)
 
 pub image-ok-spec : {M : Type 1} → statement M
 image-ok-spec =
     tie.close
     (tie.spec Inv-loop μ-loop (λ c κs. search needs) (λ c κs. search needs) (λ c κs. search needs) loop-holds
-    (λ c κs. search needs) (λ c κs. search needs) (λ c κs. search needs) (λ c. search needs) (λ c. search needs) loop-again returns)
+    (λ c κs. search needs) (λ c κs. search needs) (λ c κs. search needs) (λ c. search needs) (λ c. search needs) loop-again (λ c κs. search needs) returns)

@@ -10,4 +10,4 @@ unfolding laidOut
 returns c = rw (c .image-size .ensures, c .before .count-of .ensures, c .before .before .version-ok .ensures, c .before .before .before .version-of .ensures)
 
 pub laid-out-spec : {M : Type 1} → statement M
-laid-out-spec = tie.close (tie.spec (λ c κs. search needs) (λ c κs. search needs) (λ c κs. search needs) (λ c κs. search needs) (λ c. search needs) returns)
+laid-out-spec = tie.close (tie.spec (λ c κs. search needs) (λ c κs. search needs) (λ c κs. search needs) (λ c κs. search needs) returns)

@@ -4,11 +4,11 @@ use borrow.Author.Needs.{needs}
 use Rattle.marks.proofs.plans.stores_in.Statement.{statement}
 use Rattle.marks.proofs.plans.stores_in.Tie as tie
 
-returns-4 : tie.Need-returns-4
-returns-4 c = rw (c .before .before .plan .given .1) (c .less .ensures)
+returns-5 : tie.Need-returns-5
+returns-5 c = rw (c .before .before .plan .given .1) (c .less .ensures)
 
 pub stores-in-spec : {M : Type 1} → statement M
 stores-in-spec =
     tie.close
-    (tie.spec (λ c. search needs) (λ c. search needs) (λ c. search needs) (λ c. search needs) (λ c κs. search needs) (λ c.
-    search needs) (λ c. search needs) (λ c. search needs) returns-4)
+    (tie.spec (λ c. search needs) (λ c. search needs) (λ c. search needs) (λ c. search needs) (λ c. search needs) (λ c κs. search needs)
+    (λ c. search needs) (λ c. search needs) (λ c. search needs) (λ c. search needs) returns-5)

@@ -2,8 +2,10 @@
 -- Assumes nothing.
 use mathlib.Core.Path.{_∙_, ap}
 use native.Mathlib.Omega.{arith}
-use Rattle.octets.specs.Numbers.{numberAt}
-use Rattle.services.specs.SecurityHeader.{serviceIn}
+use mathlib.Core.List.{List}
+use Prim.Native.Nat.{ℕ}
+use lib.ListN.{drop}
+use Rattle.services.specs.SecurityHeader.{numberFrom}
 use Rattle.protection.specs.Protection.{fieldIn, numberIn}
 use Rattle.opening.proofs.Reading.{placed, security-lent}
 use borrow.Author.Needs.{needs}
@@ -24,7 +26,7 @@ unfolding numberIn fieldIn
 returns c =
     let s = c .before .before .before in
     let g = s .args in
-    c .number-in .ensures ∙ ap (numberAt 2 (serviceIn (g .opening .held) .field)) (security-lent (g .opening) (g .frame .now) (s .pre))
+    c .number-in .ensures ∙ ap (λ (x : List ℕ). numberFrom (g .opening .held) (drop 2 x)) (security-lent (g .opening) (g .frame .now) (s .pre))
 
 pub number-of-spec : {M : Type 1} → statement M
 number-of-spec =

@@ -5,7 +5,6 @@ use mathlib.Core.Bool.{true}
 use mathlib.Core.Path.{_≡_}
 use Prim.Native.Nat.{ℕ}
 use Rattle.numbers.specs.Numbers.{accepts}
-use Rattle.services.specs.Services.{service}
 use Rattle.verdicts.proofs.Accepting.{accepted-low}
 use Rattle.procedures.specs.Procedures.{mostRise}
 use borrow.Author.Needs.{needs}
@@ -13,12 +12,11 @@ use Rattle.procedures.proofs.values.number_asked.Statement.{statement}
 use Rattle.procedures.proofs.values.number_asked.Tie as tie
 
 returns : tie.Need-returns
-unfolding service
 returns c =
     λ version body allowed.
-    let r = c .number-in .result in
+    let r = c .long-number .result in
     let g = c .before .before .args in
-    let e = c .number-in .ensures in
+    let e = c .long-number .ensures in
     sym (accepted-low (g .last) mostRise (r .above) (r .number) (subst (λ (n : ℕ). accepts (g .last) mostRise n ≡ true) (sym e) allowed)) ∙ e
 
 pub number-asked-spec : {M : Type 1} → statement M

@@ -2,17 +2,15 @@
 -- Assumes nothing.
 use mathlib.Core.Path.{ap, _∙_}
 use Rattle.numbers.specs.Numbers.{accepts}
-use Rattle.services.specs.Services.{service}
 use Rattle.procedures.specs.Procedures.{mostRise}
 use borrow.Author.Needs.{needs}
 use Rattle.procedures.proofs.values.rise_allowed.Statement.{statement}
 use Rattle.procedures.proofs.values.rise_allowed.Tie as tie
 
 returns : tie.Need-returns
-unfolding service
 returns c =
     let g = c .before .before .before .args in
-    c .accepts .ensures ∙ ap (accepts (g .last) mostRise) (c .before .number-in .ensures)
+    c .accepts .ensures ∙ ap (accepts (g .last) mostRise) (c .before .long-number .ensures)
 
 pub rise-allowed-spec : {M : Type 1} → statement M
 rise-allowed-spec =

@@ -1,0 +1,2 @@
+pub mod FoundKeys
+pub mod SameKeys
