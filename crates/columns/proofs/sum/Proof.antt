@@ -1,7 +1,6 @@
 -- `sum` is right because a sum of words is one row by row.
 -- Assumes nothing.
 use mathlib.Core.Path.{_∙_}
-use Prim.Native.Nat.{ℕ}
 use native.Mathlib.Omega.{arith}
 use Rattle.octets.specs.Xor.{_⊕_}
 use Rattle.cipher.specs.State.{at}

@@ -1,7 +1,6 @@
 -- `four_more` is right because the entries of the next four bits of both halves are added to the two blocks, each moved down by four places.
 -- Assumes nothing.
 use borrow.Author.Needs.{needs}
-use native.Mathlib.Omega.{arith}
 use mathlib.Core.Path.{ap, ap₂, _∙_}
 use Prim.Native.Nat.{ℕ, _+_, _-_, _%_, _^_}
 use Rattle.octets.specs.Xor.{_⊕_}

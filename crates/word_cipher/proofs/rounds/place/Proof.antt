@@ -1,7 +1,6 @@
 -- `place` is right because the bits of 255 are the eight lowest.
 -- Assumes nothing.
 use mathlib.Core.Path.{_∙_, ap}
-use Prim.Native.Nat.{ℕ}
 use native.Mathlib.Omega.{arith}
 use lib.Bits.{bitAnd, and-le-r, and-mask}
 use Rattle.word_cipher.proofs.rounds.place.Statement.{statement}
