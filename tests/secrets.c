@@ -2,7 +2,8 @@
  * undefined, so that memcheck names every place at which the compiled module branches on something made of them, or reads memory where something
  * made of them says. tests/secrets runs it and holds what is named to a list. Of an inventory it asks itself that no octet is made of a key.
  *
- * What goes out is no secret: a secured frame is marked as defined before it is checked, but for its data and MAC, and so is a result. */
+ * What goes out is no secret: a secured frame is marked as defined before it is checked, but for its data and MAC, and so is a result. A check
+ * field is made of what it covers and is no secret either: it is written before the octets are hidden. */
 #include "../include/xistalvo.h"
 #include "independent/reading.h"
 
@@ -11,12 +12,13 @@
 #include <string.h>
 #include <valgrind/memcheck.h>
 
-enum { HEADER = 5, SPI = 9, KEYS = 3 };
+enum { HEADER = 5, SPI = 9, FIELD = 2, KEYS = 3 };
 
 static uint8_t images[2][LARGEST_IMAGE], clear[LARGEST_FRAME], secured[LARGEST_FRAME], opened[LARGEST_FRAME];
 static uint32_t numbers[2][NUMBER_COUNT];
 static size_t image_length;
 static bool is_on_ground; /* which engine's calls are made */
+static bool has_field;    /* whether frames end in a check field */
 
 static void hide(void *from, size_t octets) { VALGRIND_MAKE_MEM_UNDEFINED(from, octets); }
 
@@ -54,34 +56,43 @@ static void prepare(unsigned version, unsigned service)
     }
 }
 
-/* A check of the secured frame with a bit of its last octet changed, or none. */
-static void check(size_t data, size_t before, uint8_t change, unsigned answer)
+/* A check of the secured frame with a bit of its MAC's last octet changed, or none, and of its check field, or none. */
+static void check(size_t data, size_t before, uint8_t change, uint8_t change_of_field, unsigned answer)
 {
-    size_t length = before + data + MAC_LENGTH;
-    secured[length - 1] ^= change;
+    size_t end = before + data + MAC_LENGTH, length = end + (has_field ? FIELD : 0);
+    secured[end - 1] ^= change;
+    if (has_field) {
+        write_check_field(secured, length);
+        secured[length - 1] ^= change_of_field;
+    }
     hide(secured + before, data + MAC_LENGTH);
-    need((is_on_ground ? xistalvo_ground_check : xistalvo_check)(images[1], image_length, numbers[1], NUMBER_COUNT, XISTALVO_TC,
-                                                                 XISTALVO_NO_CHECK_FIELD, secured, length, opened, sizeof opened),
+    need((is_on_ground ? xistalvo_ground_check : xistalvo_check)(images[1], image_length, numbers[1], NUMBER_COUNT, XISTALVO_TC, has_field,
+                                                                 secured, length, opened, sizeof opened),
          answer, "check");
     show(secured, length);
-    secured[length - 1] ^= change;
+    secured[end - 1] ^= change;
 }
 
-/* A frame of so much data, sent, checked with another MAC, and checked. */
+/* A frame of so much data, sent, checked with another check field if it has one, with another MAC, and checked. */
 static void round_trip(unsigned service, size_t data)
 {
     static const uint8_t header[HEADER] = {0x00, 27, 5 << 2, 0, 0};
-    size_t before = HEADER + (service == XISTALVO_AUTHENTICATED_ENCRYPTION ? 14 : 6);
+    size_t before = HEADER + (service == XISTALVO_AUTHENTICATED_ENCRYPTION ? 14 : 6), length = HEADER + data + (has_field ? FIELD : 0);
+    show(clear, length);
     memset(clear, 0xAA, HEADER + data);
     memcpy(clear, header, HEADER);
-    write_tc_length(clear, HEADER + data);
+    write_tc_length(clear, length);
+    if (has_field)
+        write_check_field(clear, length);
     hide(clear + HEADER, data);
-    need((is_on_ground ? xistalvo_ground_secure : xistalvo_secure)(images[0], image_length, numbers[0], NUMBER_COUNT, XISTALVO_TC,
-                                                                   XISTALVO_NO_CHECK_FIELD, SPI, clear, HEADER + data, secured, sizeof secured),
+    need((is_on_ground ? xistalvo_ground_secure : xistalvo_secure)(images[0], image_length, numbers[0], NUMBER_COUNT, XISTALVO_TC, has_field,
+                                                                   SPI, clear, length, secured, sizeof secured),
          XISTALVO_DONE, "sending");
-    show(secured, before + data + MAC_LENGTH);
-    check(data, before, 1, XISTALVO_MAC_DIFFERS);
-    check(data, before, 0, XISTALVO_DONE);
+    show(secured, before + data + MAC_LENGTH + FIELD);
+    if (has_field)
+        check(data, before, 0, 1, XISTALVO_CHECK_FIELD_DIFFERS);
+    check(data, before, 1, 0, XISTALVO_MAC_DIFFERS);
+    check(data, before, 0, 0, XISTALVO_DONE);
 }
 
 /* The reply lists all keys, and no octet of it depends on what they are. */
@@ -99,11 +110,12 @@ static void list_keys(void)
 
 int main(void)
 {
-    static const size_t sizes[] = {1, 16, 100, 986};
-    for (unsigned run = 0; run < 8; run++) {
+    static const size_t sizes[] = {1, 16, 100, 984};
+    for (unsigned run = 0; run < 16; run++) {
         unsigned service = run % 2 + 1;
-        unsigned version = run < 4 ? 1 : 3;
+        unsigned version = run < 8 ? 1 : 3;
         is_on_ground = run / 2 % 2 == 1;
+        has_field = run / 4 % 2 == 1;
         prepare(version, service);
         for (size_t i = 0; i < sizeof sizes / sizeof sizes[0]; i++) {
             round_trip(service, sizes[i]);

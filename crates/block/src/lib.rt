@@ -43,7 +43,7 @@ fn joined(a: u8, b: u8, c: u8, d: u8) -> u32
 }
 
 // The eight octets from `at` on, all of them inside: a whole block is read with no test for each octet. They are joined by fours: of eight at
-// once the compiler made no load that is wider than an octet, and of fours it does for the second.
+// once the compiler makes no load that is wider than an octet.
 fn word_inside(s: &[u8], at: usize) -> u64
     requires { ⌜ at + 8 ≤ length (now s) ⌝ }
     ensures { λ r. ⌜ r ≡ number 8 (drop at (now (s .entry))) ⌝ }
@@ -53,7 +53,8 @@ fn word_inside(s: &[u8], at: usize) -> u64
     high as u64 * 0x1_0000_0000 + low as u64
 }
 
-// The sixteen octets from `at` on. Past the end they are 0: a last block is filled with zeros where it is read.
+// The sixteen octets from `at` on. Past the end they are 0: a last block is filled with zeros where it is read. Of such a block the lower half is
+// read first: were both ways to begin with the octet at `at`, the compiler would read it before it parts them, and the first half octet by octet.
 pub fn load(s: &[u8], at: usize) -> Block
     ensures { λ r. ⌜ value r ≡ number 16 (drop at (now (s .entry))) ⌝ }
 {
@@ -66,9 +67,10 @@ pub fn load(s: &[u8], at: usize) -> Block
             lo: word_inside(s, at + 8),
         };
     }
+    let lo = word(s, at + 8);
     Block {
         hi: word(s, at),
-        lo: word(s, at + 8),
+        lo,
     }
 }
 

@@ -7,9 +7,9 @@ use Prim.Native.Nat.{ℕ, suc, _+_, _-_, _*_, _/_, _≤_, _<_}
 use native.Mathlib.Omega.{arith}
 use borrow.Author.Tests.{eqb-true, eqb-false, eq-eqb, ne-eqb}
 use lib.Dec.{eqb}
-use lib.ListN.{length, set, drop, length-drop, List·getD-eq-default}
+use lib.ListN.{length, set, drop, length-append, length-drop, List·getD-eq-default}
 use lib.Seq.{take-all}
-use Rattle.octets.specs.Lists.{octet, tab}
+use Rattle.octets.specs.Lists.{octet, tab, part}
 use Rattle.octets.specs.Xor.{xors}
 use Rattle.octets.proofs.Rules.{length-tab, tab-ext}
 use Rattle.octets.proofs.Parts.{octet-past, tab-part, set-tab}
@@ -26,6 +26,10 @@ by-test n false e =
 pub count-is : (n : ℕ) → blockCount n ≡ (n - 1) / 16 + 1
 unfolding blockCount
 count-is n = by-test n (eqb n 0) refl
+
+-- a block starts within the message
+pub starts : (head body : List ℕ) (i : ℕ) → i < blockCount (length (head ++ body)) → 16 * i ≤ length head + length body
+starts head body i h = omega (arith, count-is (length (head ++ body)), length-append head body)
 
 -- the sixteen octets of block i of m, counted from 0, with zeros past the end of m
 abbrev pub sixteen : List ℕ → ℕ → List ℕ
@@ -87,7 +91,7 @@ module _ (m : List ℕ) (i : ℕ) where
           simp (is-last (omega arith), ne-eqb _ _ n) (ap (xors 16 second) (filled r few ends))
 
 -- a block that starts behind the head lies in the body
-pub in-body : (head body : List ℕ) (i at : ℕ) → length head ≤ 16 * i → at ≡ 16 * i - length head
-    → tab 16 (λ j. octet body (at + j)) ≡ tab 16 (λ j. octet (head ++ body) (16 * i + j))
+pub in-body : (head body : List ℕ) (i at : ℕ) → length head ≤ 16 * i → at ≡ 16 * i - length head → part at 16 body ≡ sixteen (head ++ body) i
+unfolding part
 in-body head body i at l e =
     tab-ext 16 (λ j h. ap (octet body) (omega arith) ∙ sym (octet-past head body (16 * i + j) (omega arith)))

@@ -5,11 +5,13 @@ mod blocks;
 mod message;
 mod subkeys;
 
-use blocks::xor_blocks;
 use cipher::expand_key;
+use columns::octets_of;
+use columns::sum;
 use engines::encrypt_block;
+use engines::encrypt_words;
 use message::block_count;
-use message::message_block;
+use message::message_words;
 use octets::same_block;
 use subkeys::next_subkey;
 ghost use mathlib.Core.Path.{_≡_};
@@ -18,7 +20,8 @@ ghost use Rattle.octets.specs.Same.{same};
 ghost use Rattle.engines.specs.Lent.{Lent};
 ghost use Rattle.cmac.specs.Mac.{cmacUnder, cmac};
 
-// The MAC of the message (6.2). The subkeys come first, from the block of zeros under the cipher (6.1); after i turns `chained` is C_i.
+// The MAC of the message (6.2). The subkeys come first, from the block of zeros under the cipher (6.1); after i turns `chained` has the words of
+// C_i.
 pub fn mac_under(tables: &[u32], expanded: &[u8; 240], head: &[u8], body: &[u8]) -> [u8; 16]
     requires { ⌜ Lent (now tables) ⌝ }
     ensures { λ r. ⌜ r ≡ cmacUnder (now (expanded .entry)) (now (head .entry) ++ now (body .entry)) ⌝ }
@@ -26,15 +29,15 @@ pub fn mac_under(tables: &[u32], expanded: &[u8; 240], head: &[u8], body: &[u8])
     let first = next_subkey(encrypt_block(tables, expanded, [0u8; 16]));
     let second = next_subkey(first);
     let count = block_count(head.len() + body.len());
-    let mut chained = [0u8; 16];
+    let mut chained = [0u32; 4];
     let mut i: usize = 0;
     while i < count {
-        let block = message_block(first, second, head, body, i);
-        let next = encrypt_block(tables, expanded, xor_blocks(chained, block));
+        let block = message_words(first, second, head, body, i);
+        let next = encrypt_words(tables, expanded, sum(chained, block));
         chained = next;
         i += 1;
     }
-    chained
+    octets_of(chained)
 }
 
 pub fn mac(key: [u8; 32], head: &[u8], body: &[u8]) -> [u8; 16]

@@ -1,12 +1,15 @@
 // NIST SP 800-38B, 6.2, steps 2 to 4: the blocks of a message. The message is `head` and `body` laid end to end. Blocks are counted from 0
 // here, so that block i is M_(i+1) of the standard.
 use crate::blocks::xor_blocks;
+use columns::words_at;
+use columns::words_of;
 use octets::octet_at;
 ghost use mathlib.Core.Path.{_≡_};
 ghost use mathlib.Core.List.{_++_};
-ghost use Prim.Native.Nat.{_+_, _*_, _^_, _≤_, _<_};
+ghost use Prim.Native.Nat.{_+_, _*_, _^_, _<_};
 ghost use lib.ListN.{length};
 ghost use Rattle.octets.specs.Lists.{octet, tab};
+ghost use Rattle.columns.specs.Columns.{stateFrom};
 ghost use Rattle.cmac.specs.Mac.{blockCount, block};
 
 // Octet i of the message, and 0 past its end.
@@ -19,34 +22,11 @@ fn message_octet(head: &[u8], body: &[u8], i: usize) -> u8
     octet_at(body, i - head.len())
 }
 
-// The sixteen octets at a place, all of them inside.
-fn block_inside(s: &[u8], at: usize) -> [u8; 16]
-    requires { ⌜ at + 16 ≤ length (now s) ⌝ }
-    ensures { λ r. ⌜ r ≡ tab 16 (λ j. octet (now (s .entry)) (at + j)) ⌝ }
-{
-    let mut out = [0u8; 16];
-    let mut j: usize = 0;
-    while j < 16 {
-        out[j] = s[at + j];
-        j += 1;
-    }
-    out
-}
-
-// Block i as it lies in the message, with zeros past the end. One that lies whole in the body, as nearly all do, is read with no test for each
-// octet. The bound keeps the place of its last octet within a usize.
+// Block i as it lies in the message, with zeros past the end. The bound keeps the place of its last octet within a usize.
 fn gathered(head: &[u8], body: &[u8], i: usize) -> [u8; 16]
     requires { ⌜ i < 2 ^ 60 ⌝ }
     ensures { λ r. ⌜ r ≡ tab 16 (λ j. octet (now (head .entry) ++ now (body .entry)) (16 * i + j)) ⌝ }
 {
-    if head.len() <= 16 * i {
-        let at = 16 * i - head.len();
-        if at < body.len() {
-            if 16 <= body.len() - at {
-                return block_inside(body, at);
-            }
-        }
-    }
     let mut out = [0u8; 16];
     let mut j: usize = 0;
     while j < 16 {
@@ -68,13 +48,7 @@ pub(crate) fn block_count(length: usize) -> usize
 }
 
 // Step 4: block i of the message; the last one is masked by the first subkey if it is complete, and else filled and masked by the second.
-pub(crate) fn message_block(
-    first: [u8; 16],
-    second: [u8; 16],
-    head: &[u8],
-    body: &[u8],
-    i: usize,
-) -> [u8; 16]
+fn message_block(first: [u8; 16], second: [u8; 16], head: &[u8], body: &[u8], i: usize) -> [u8; 16]
     requires { ⌜ i < blockCount (length (now head ++ now body)) ⌝ }
     ensures { λ r. ⌜ r ≡ block first second (now (head .entry) ++ now (body .entry)) (i + 1) ⌝ }
 {
@@ -88,4 +62,26 @@ pub(crate) fn message_block(
     }
     out[rest] = 0x80;
     xor_blocks(second, out)
+}
+
+// The words of block i. One that lies whole in the body with more after it, as nearly all do, is read by fours, with no test for each octet.
+pub(crate) fn message_words(
+    first: [u8; 16],
+    second: [u8; 16],
+    head: &[u8],
+    body: &[u8],
+    i: usize,
+) -> [u32; 4]
+    requires { ⌜ i < blockCount (length (now head ++ now body)) ⌝ }
+    ensures { λ r. ⌜ stateFrom r ≡ block first second (now (head .entry) ++ now (body .entry)) (i + 1) ⌝ }
+{
+    if head.len() <= 16 * i {
+        let at = 16 * i - head.len();
+        if at < body.len() {
+            if 16 < body.len() - at {
+                return words_at(body, at);
+            }
+        }
+    }
+    words_of(message_block(first, second, head, body, i))
 }

@@ -6,8 +6,8 @@ use Prim.Native.Nat.{ℕ, zero, suc, _+_, _-_, _*_, _/_, _%_, _^_, _<_}
 use native.Mathlib.Omega.{arith}
 use lib.Bits.{xor-shr, xor-mod}
 use lib.ListN.{length}
-use Rattle.octets.specs.Lists.{octet, tab}
-use Rattle.octets.specs.Xor.{_⊕_}
+use Rattle.octets.specs.Lists.{octet, tab, part}
+use Rattle.octets.specs.Xor.{_⊕_, xors}
 use Rattle.octets.proofs.Parts.{tab-self}
 use Rattle.octets.proofs.Rules.{tab-ext, octet-tab}
 use Rattle.cipher.specs.State.{at, cell, state}
@@ -46,7 +46,15 @@ pub state-self : (block : List ℕ) → length block ≡ 16 → state (at block)
 state-self block long =
     tab-ext 16 (λ i h. ap (octet block) (sym (cell-at i))) ∙ ap (λ (n : ℕ). tab n (octet block)) (sym long) ∙ tab-self block
 
--- the sum of column c and a word of the key
+-- the word at a place, as a column of the block at another
+pub placed : (s : List ℕ) (place c : ℕ) {x p : ℕ} → p ≡ place + 4 * c → Column x (λ i. octet s (p + i)) → Column x (λ r. octet s (place + (r + 4 * c)))
+placed s place c e word = record { row = λ r h. word .row r h ∙ ap (octet s) (omega arith) }
+
+-- the block at a place
+pub state-at : (s : List ℕ) (place : ℕ) → state (λ r c. octet s (place + (r + 4 * c))) ≡ part place 16 s
+unfolding part
+state-at s place = tab-ext 16 (λ i h. ap (λ (n : ℕ). octet s (place + n)) (sym (cell-at i)))
+
 pub row-sum : (r x y : ℕ) → rowOf r (x ⊕ y) ≡ rowOf r x ⊕ rowOf r y
 row-sum r x y = ap (λ (n : ℕ). n % 2 ^ 8) (xor-shr x y (24 - 8 * r)) ∙ xor-mod (x / 2 ^ (24 - 8 * r)) (y / 2 ^ (24 - 8 * r)) 8
 
@@ -57,11 +65,23 @@ at-columns v r c hr hc =
     let column : (r + 4 * c) / 4 ≡ c = omega arith in
     octet-tab 16 (cell (λ r c. rowOf r (octet v c))) (r + 4 * c) (omega arith) ∙ ap₂ (λ (r c : ℕ). rowOf r (octet v c)) row column
 
-pub keyed : (v w : List ℕ) (round c : ℕ) {x i : ℕ} → c < 4 → i ≡ 4 * round + c → Column x (λ r. at w r i)
+-- the sum of column c of two states
+pub summed : (v w : List ℕ) (c : ℕ) → c < 4 → Column (octet v c ⊕ octet w c) (λ r. at (stateFrom v) r c ⊕ at (stateFrom w) r c)
+summed v w c h =
+    record {
+      row = λ r k. row-sum r (octet v c) (octet w c) ∙ ap₂ _⊕_ (sym (at-columns v r c k h)) (sym (at-columns w r c k h));
+    }
+
+pub state-sum : (a b : List ℕ) → state (λ r c. at a r c ⊕ at b r c) ≡ xors 16 a b
+unfolding xors
+state-sum a b = tab-ext 16 (λ i h. ap (λ (n : ℕ). octet a n ⊕ octet b n) (sym (cell-at i)))
+
+-- the sum of column c and its word of a round key
+pub keyed : (v w : List ℕ) (round c : ℕ) {x p : ℕ} → c < 4 → p ≡ 16 * round + 4 * c → Column x (λ i. octet w (p + i))
     → Column (octet v c ⊕ x) (λ r. at (stateFrom v) r c ⊕ at w r (4 * round + c))
 keyed v w round c {x} h e word =
     record {
       row =
           λ r k.
-          row-sum r (octet v c) x ∙ ap₂ _⊕_ (sym (at-columns v r c k h)) (word .row r k ∙ ap (at w r) e);
+          row-sum r (octet v c) x ∙ ap₂ _⊕_ (sym (at-columns v r c k h)) (word .row r k ∙ ap (octet w) (omega arith));
     }

@@ -1,7 +1,10 @@
 // FIPS 197, 3.5: a state as its four columns, each a word of 32 bits with row 0 highest.
 ghost use mathlib.Core.Path.{_≡_};
 ghost use mathlib.Core.List.{[], _∷_};
-ghost use Rattle.octets.specs.Lists.{octet};
+ghost use Prim.Native.Nat.{_+_, _≤_};
+ghost use lib.ListN.{length};
+ghost use Rattle.octets.specs.Lists.{octet, part};
+ghost use Rattle.octets.specs.Xor.{xors};
 ghost use Rattle.columns.specs.Columns.{Column, stateFrom};
 
 // The word that has these octets.
@@ -9,6 +12,34 @@ pub fn joined(a: u8, b: u8, c: u8, d: u8) -> u32
     ensures { λ r. ⌜ Column r (λ i. octet (a ∷ b ∷ c ∷ d ∷ []) i) ⌝ }
 {
     a as u32 * 0x1000000 + b as u32 * 0x10000 + c as u32 * 0x100 + d as u32
+}
+
+// The word at a place of s, all of it inside.
+pub fn word_at(s: &[u8], at: usize) -> u32
+    requires { ⌜ at + 4 ≤ length (now s) ⌝ }
+    ensures { λ r. ⌜ Column r (λ i. octet (now (s .entry)) (at + i)) ⌝ }
+{
+    joined(s[at], s[at + 1], s[at + 2], s[at + 3])
+}
+
+// The four words of the block at a place of s, all of it inside.
+pub fn words_at(s: &[u8], at: usize) -> [u32; 4]
+    requires { ⌜ at + 16 ≤ length (now s) ⌝ }
+    ensures { λ r. ⌜ stateFrom r ≡ part at 16 (now (s .entry)) ⌝ }
+{
+    [
+        word_at(s, at),
+        word_at(s, at + 4),
+        word_at(s, at + 8),
+        word_at(s, at + 12),
+    ]
+}
+
+// The sum of two blocks.
+pub fn sum(v: [u32; 4], w: [u32; 4]) -> [u32; 4]
+    ensures { λ r. ⌜ stateFrom r ≡ xors 16 (stateFrom v) (stateFrom w) ⌝ }
+{
+    [v[0] ^ w[0], v[1] ^ w[1], v[2] ^ w[2], v[3] ^ w[3]]
 }
 
 // A block's four words.

@@ -1,4 +1,5 @@
 pub mod Ghash
 pub mod Input
+pub mod Partway
 pub mod Product
 pub mod Table

@@ -3,10 +3,11 @@
 use block::Block;
 use block::xor;
 ghost use mathlib.Core.Path.{_≡_};
-ghost use Prim.Native.Nat.{ℕ, _*_, _/_, _%_, _^_, _<_};
+ghost use Prim.Native.Nat.{ℕ, _+_, _*_, _/_, _%_, _^_, _≤_, _<_};
 ghost use Rattle.octets.specs.Xor.{_⊕_};
 ghost use Rattle.ghash.specs.Product.{nextV, productRounds, _•_};
 ghost use Rattle.block.specs.Halves.{value};
+ghost use Rattle.ghash.specs.Partway.{Partway};
 ghost use Rattle.ghash.specs.Table.{nexts, entry, IsTableOf};
 
 // v if the bit is 1, and 0 if it is 0, with no branch.
@@ -110,27 +111,50 @@ fn raised(half: u64) -> Block
     Block { hi: half, lo: 0 }
 }
 
-// The product of x with the block that t is the table of. Both halves of x go at once, and nothing is reduced before the end: what is shifted
-// out of `high` is kept in `low`.
-pub(crate) fn multiply(x: Block, t: &[u64; 32]) -> Block
-    ensures { λ r. ⌜ ((h : ℕ) → IsTableOf h (now (t .entry)) → value r ≡ value x • h) ⌝ }
+// A product before it is reduced: what is shifted out of `high` is kept in `low`.
+struct Unreduced {
+    high: Block,
+    low: Block,
+}
+
+// The four bits of each half of x at the weights 2^k to 2^(k + 3).
+fn four_more(z: Unreduced, x: Block, k: u64, t: &[u64; 32]) -> Unreduced
+    requires { ⌜ k ≤ 60 ⌝ }
+    ensures { λ r. ⌜ ((h : ℕ) → IsTableOf h (now (t .entry)) → Partway h (x .hi) (x .lo) k (value (z .high)) (value (z .low)) → Partway h (x .hi) (x .lo) (k + 4) (value (r .high)) (value (r .low))) ⌝ }
 {
-    let mut high = Block { hi: 0, lo: 0 };
-    let mut low = Block { hi: 0, lo: 0 };
-    let mut k: u64 = 0;
-    while k < 64 {
-        let first = entry_at(t, four_bits(x.hi, k));
-        let second = entry_at(t, four_bits(x.lo, k));
-        low = xor(moved_down(high.lo % 16, low), raised(second.lo));
-        let added = xor(first, moved_down(0, high));
-        high = xor(
+    let high = z.high;
+    let first = entry_at(t, four_bits(x.hi, k));
+    let second = entry_at(t, four_bits(x.lo, k));
+    let low = xor(moved_down(high.lo % 16, z.low), raised(second.lo));
+    let added = xor(first, moved_down(0, high));
+    Unreduced {
+        high: xor(
             added,
             Block {
                 hi: 0,
                 lo: second.hi,
             },
-        );
-        k += 4;
+        ),
+        low,
     }
+}
+
+// The product of x with the block that t is the table of. Both halves of x go at once, and nothing is reduced before the end. A turn does an
+// octet of each.
+pub(crate) fn multiply(x: Block, t: &[u64; 32]) -> Block
+    ensures { λ r. ⌜ ((h : ℕ) → IsTableOf h (now (t .entry)) → value r ≡ value x • h) ⌝ }
+{
+    let mut z = Unreduced {
+        high: Block { hi: 0, lo: 0 },
+        low: Block { hi: 0, lo: 0 },
+    };
+    let mut k: u64 = 0;
+    while k < 64 {
+        let next = four_more(four_more(z, x, k, t), x, k + 4, t);
+        z = next;
+        k += 8;
+    }
+    let high = z.high;
+    let low = z.low;
     xor(high, half_next(half_next(low)))
 }

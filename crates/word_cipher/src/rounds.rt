@@ -1,35 +1,47 @@
 // The steps of a round (5.1) on the four columns of a state. ShiftRows (5.1.2) takes row r of a column from the column r places further to the
 // right, so that a column of what follows it is made of four: row 0 of a, row 1 of b, row 2 of c and row 3 of d.
 use columns::joined;
+use columns::word_at;
 ghost use mathlib.Core.Path.{_≡_};
-ghost use Prim.Native.Nat.{_<_};
+ghost use Prim.Native.Nat.{_%_, _<_};
 ghost use Rattle.octets.specs.Lists.{octet};
 ghost use Rattle.substitution.specs.Field.{_⊗_};
 ghost use Rattle.cipher.specs.AddRoundKey.{addRoundKey};
 ghost use Rattle.cipher.specs.MixColumns.{mixer, mixColumns};
 ghost use Rattle.cipher.specs.ShiftRows.{shiftRows};
-ghost use Rattle.cipher.specs.State.{at};
 ghost use Rattle.cipher.specs.SubBytes.{subBytes};
 ghost use Rattle.columns.specs.Columns.{Column, stateFrom};
 ghost use Rattle.word_cipher.specs.Apart.{IsTable, AreTables};
 ghost use Rattle.word_cipher.specs.Diagonal.{diagonal};
 
-// SubBytes and MixColumns: the product by a(x) of a column is the sum of those of its rows, each of which is in a table.
+// The lowest octet of x, as a place of a table. `last` is the last place: with 255 written here the compiler would mask it together with the
+// size of an entry, and a lookup would take an instruction more on Arm.
+fn place(last: u32, x: u32) -> usize
+    requires { ⌜ last ≡ 255 ⌝ }
+    ensures { λ r. ⌜ r ≡ x % 256 ⌝ }
+{
+    (x & last) as usize
+}
+
+// SubBytes and MixColumns: the product by a(x) of a column is the sum of those of its rows, each of which is in a table. Of the lower rows
+// x86-64 takes the octet by one instruction, so these have no use for `last`.
 fn mixed_column(
     first: &[u32],
     second: &[u32],
     third: &[u32],
     fourth: &[u32],
+    last: u32,
     a: u32,
     b: u32,
     c: u32,
     d: u32,
 ) -> u32
     requires { ⌜ AreTables (now first) (now second) (now third) (now fourth) ⌝ }
+    requires { ⌜ last ≡ 255 ⌝ }
     ensures { λ r. ⌜ Column r (λ i. octet (mixer ⊗ diagonal a b c d) i) ⌝ }
 {
-    first[(a / 0x1000000 % 256) as usize]
-        ^ second[(b / 0x10000 % 256) as usize]
+    first[place(last, a / 0x1000000)]
+        ^ second[place(last, b / 0x10000)]
         ^ third[(c / 0x100 % 256) as usize]
         ^ fourth[(d % 256) as usize]
 }
@@ -40,16 +52,18 @@ pub(crate) fn mixed(
     second: &[u32],
     third: &[u32],
     fourth: &[u32],
+    last: u32,
     v: [u32; 4],
 ) -> [u32; 4]
     requires { ⌜ AreTables (now first) (now second) (now third) (now fourth) ⌝ }
+    requires { ⌜ last ≡ 255 ⌝ }
     ensures { λ r. ⌜ stateFrom r ≡ mixColumns (shiftRows (subBytes (stateFrom v))) ⌝ }
 {
     [
-        mixed_column(first, second, third, fourth, v[0], v[1], v[2], v[3]),
-        mixed_column(first, second, third, fourth, v[1], v[2], v[3], v[0]),
-        mixed_column(first, second, third, fourth, v[2], v[3], v[0], v[1]),
-        mixed_column(first, second, third, fourth, v[3], v[0], v[1], v[2]),
+        mixed_column(first, second, third, fourth, last, v[0], v[1], v[2], v[3]),
+        mixed_column(first, second, third, fourth, last, v[1], v[2], v[3], v[0]),
+        mixed_column(first, second, third, fourth, last, v[2], v[3], v[0], v[1]),
+        mixed_column(first, second, third, fourth, last, v[3], v[0], v[1], v[2]),
     ]
 }
 
@@ -88,30 +102,16 @@ pub(crate) fn rows_shifted(first: &[u32], second: &[u32], third: &[u32], v: [u32
     ]
 }
 
-// Word i of an expanded key.
-fn key_word(expanded: &[u8; 240], i: usize) -> u32
-    requires { ⌜ i < 60 ⌝ }
-    ensures { λ r. ⌜ Column r (λ j. at (now (expanded .entry)) j i) ⌝ }
-{
-    let at = 4 * i;
-    joined(
-        expanded[at],
-        expanded[at + 1],
-        expanded[at + 2],
-        expanded[at + 3],
-    )
-}
-
 // AddRoundKey.
 pub(crate) fn add_key(expanded: &[u8; 240], round: usize, v: [u32; 4]) -> [u32; 4]
     requires { ⌜ round < 15 ⌝ }
     ensures { λ r. ⌜ stateFrom r ≡ addRoundKey (now (expanded .entry)) round (stateFrom v) ⌝ }
 {
-    let first = 4 * round;
+    let at = 16 * round;
     [
-        v[0] ^ key_word(expanded, first),
-        v[1] ^ key_word(expanded, first + 1),
-        v[2] ^ key_word(expanded, first + 2),
-        v[3] ^ key_word(expanded, first + 3),
+        v[0] ^ word_at(expanded, at),
+        v[1] ^ word_at(expanded, at + 4),
+        v[2] ^ word_at(expanded, at + 8),
+        v[3] ^ word_at(expanded, at + 12),
     ]
 }

@@ -19,10 +19,10 @@ returns-2 c =
 returns-3 : tie.Need-returns-3
 returns-3 c =
     let given = c .before .before .before .before .before .args in
-    ap₂ (λ (a b : ℕ). a * 2 ^ 64 + b) (c .before .word .ensures) (c .word2 .ensures) ∙ number-halves (given .at) (given .s .now)
+    ap₂ (λ (a b : ℕ). a * 2 ^ 64 + b) (c .word2 .ensures) (c .before .word .ensures) ∙ number-halves (given .at) (given .s .now)
 
 pub load-spec : {M : Type 1} → statement M
 load-spec =
     tie.close
     (tie.spec returns (λ c. search needs) (λ c κs. search needs) (λ c. search needs) (λ c κs. search needs) returns-2
-    (λ c κs. search needs) (λ c. search needs) (λ c κs. search needs) returns-3)
+    (λ c. search needs) (λ c κs. search needs) (λ c κs. search needs) returns-3)

@@ -7,10 +7,10 @@ use Rattle.word_cipher.proofs.encrypt.Tie as tie
 
 returns : tie.Need-returns
 returns c =
-    let given = c .before .before .before .before .before .args in
+    let given = c .before .before .before .before .before .before .before .args in
     cc (under-expanded (given .key) (given .block))
 
 pub encrypt-spec : {M : Type 1} → statement M
 encrypt-spec =
     tie.close
-    (tie.spec (λ c κs. search needs) (λ c κs. search needs) (λ c. search needs) (λ c κs. search needs) returns)
+    (tie.spec (λ c κs. search needs) (λ c κs. search needs) (λ c. search needs) (λ c κs. search needs) (λ c κs. search needs) (λ c κs. search needs) returns)

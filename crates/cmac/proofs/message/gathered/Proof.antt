@@ -1,12 +1,10 @@
--- `gathered` is right because a block behind the head is one of the body, and for any other each turn writes one octet of the message.
+-- `gathered` is right because each turn writes one octet of the message, and the turns go through sixteen of them.
 -- Assumes nothing.
-use mathlib.Core.Path.{refl, _∙_}
+use mathlib.Core.Path.{refl}
 use mathlib.Core.List.{_++_}
 use Prim.Native.Nat.{_+_, _-_, _*_}
-use native.Mathlib.Omega.{arith}
 use Rattle.octets.specs.Lists.{octet}
 use Rattle.octets.proofs.Rules.{Filled, filled-none, filled-more, filled-all}
-use Rattle.cmac.proofs.Cuts.{in-body}
 use borrow.Author.Needs.{needs}
 use Rattle.cmac.proofs.message.gathered.Statement.{statement}
 use Rattle.cmac.proofs.message.gathered.Tie as tie
@@ -24,16 +22,10 @@ loop-again : tie.Need-loop-again Inv-loop μ-loop
 loop-again c = filled-more (c .before .loop-test .taken) (c .message-octet .ensures) (c .before .before .loop .inv)
 
 returns : tie.Need-returns Inv-loop μ-loop
-returns c =
-    let given = c .before .before .before .before .before .before .args in
-    c .block-inside .ensures ∙ in-body (given .head .now) (given .body .now) (given .i) _ (omega arith) refl
-
-returns-2 : tie.Need-returns-2 Inv-loop μ-loop
-returns-2 c = filled-all (c .loop-test .left) (c .before .loop .inv)
+returns c = filled-all (c .loop-test .left) (c .before .loop .inv)
 
 pub gathered-spec : {M : Type 1} → statement M
 gathered-spec =
     tie.close
-    (tie.spec Inv-loop μ-loop (λ c. search needs) (λ c. search needs) (λ c. search needs) (λ c. search needs)
-    (λ c κs. omega arith) returns loop-holds (λ c. search needs) (λ c. search needs) (λ c κs. search needs)
-    (λ c. search needs) (λ c. search needs) (λ c. search needs) loop-again returns-2)
+    (tie.spec Inv-loop μ-loop loop-holds (λ c. search needs) (λ c. search needs) (λ c κs. search needs) (λ c. search needs)
+    (λ c. search needs) (λ c. search needs) loop-again returns)

@@ -7,26 +7,23 @@ use Prim.Native.Nat.{ℕ, _+_, _-_, _*_, _≤_}
 use native.Mathlib.Omega.{arith}
 use lib.ListN.{length, set, length-append}
 use Rattle.octets.specs.Xor.{xors}
-use Rattle.cmac.proofs.Cuts.{count-is, inner-block, whole-block, short-block}
+use Rattle.cmac.proofs.Cuts.{starts, inner-block, whole-block, short-block}
 use borrow.Author.Needs.{needs}
 use Rattle.cmac.proofs.message.message_block.Statement.{statement}
 use Rattle.cmac.proofs.message.message_block.Tie as tie
 
 -- the block starts within the message
-starts : (c : tie.Start) → 16 * c .args .i ≤ length (c .args .head .now) + length (c .args .body .now)
-starts c =
-    let head = c .args .head .now in
-    let body = c .args .body .now in
-    omega (arith, c .pre, count-is (length (head ++ body)), length-append head body)
+begins : (c : tie.Start) → 16 * c .args .i ≤ length (c .args .head .now) + length (c .args .body .now)
+begins c = starts (c .args .head .now) (c .args .body .now) (c .args .i) (c .pre)
 
 gathered-requires : tie.Need-gathered-requires
-gathered-requires c κs = omega (arith, starts (c .before .before))
+gathered-requires c κs = omega (arith, begins (c .before .before))
 
 mul-rest : tie.Need-mul-rest
-mul-rest c = record { fits = omega (arith, starts (c .before .before .before)) }
+mul-rest c = record { fits = omega (arith, begins (c .before .before .before)) }
 
 sub-rest : tie.Need-sub-rest
-sub-rest c = omega (arith, starts (c .before .before .before))
+sub-rest c = omega (arith, begins (c .before .before .before))
 
 returns : tie.Need-returns
 returns c =
@@ -43,7 +40,7 @@ returns-2 c =
     let head = given .head .now in
     let body = given .body .now in
     c .xor-blocks .ensures ∙ ap (xors 16 (given .first)) (whole .gathered .ensures)
-    ∙ whole-block (head ++ body) (given .i) (given .first) (given .second) (start .pre) (omega (arith, starts start, length-append head body))
+    ∙ whole-block (head ++ body) (given .i) (given .first) (given .second) (start .pre) (omega (arith, begins start, length-append head body))
 
 returns-3 : tie.Need-returns-3
 returns-3 c =
@@ -55,7 +52,7 @@ returns-3 c =
     let rest : ℕ = length head + length body - 16 * given .i in
     c .xor-blocks2 .ensures ∙ ap (λ (l : List ℕ). xors 16 (given .second) (set l rest 0x80)) (short .gathered .ensures)
     ∙ short-block (head ++ body) (given .i) (given .first) (given .second) (start .pre) rest (omega arith)
-    (omega (arith, starts start, length-append head body))
+    (omega (arith, begins start, length-append head body))
 
 pub message-block-spec : {M : Type 1} → statement M
 message-block-spec =

@@ -15,7 +15,7 @@ use Rattle.word_cipher.proofs.rounds.mixed.Tie as tie
 returns : tie.Need-returns
 unfolding mixColumns shiftRows subBytes stateFrom tab
 returns c =
-    let s = shiftRows (subBytes (stateFrom (c .before .before .before .before .before .before .before .before .args .t5))) in
+    let s = shiftRows (subBytes (stateFrom (c .before .before .before .before .before .before .before .before .args .t6))) in
     columns (λ r c. octet (mixer ⊗ column s c) r) (c .before .before .before .mixed-column .ensures) (c .before .before .mixed-column2 .ensures)
     (c .before .mixed-column3 .ensures) (c .mixed-column4 .ensures)
 

@@ -7,10 +7,15 @@ use Rattle.word_cipher.proofs.rounds.mixed_column.Tie as tie
 
 returns : tie.Need-returns
 returns c =
-    let start = c .before .before .before .before in
-    mixes (start .pre) (start .args .a) (start .args .b) (start .args .c) (start .args .d)
+    let second = c .before .before .before in
+    let first = second .before .before in
+    let start = first .before .before .before .before .before in
+    rw (first .place .ensures, second .place2 .ensures)
+    (mixes (start .pre .0) (start .args .a) (start .args .b) (start .args .c) (start .args .d))
 
 pub mixed-column-spec : {M : Type 1} → statement M
 mixed-column-spec =
     tie.close
-    (tie.spec (λ c. search needs) (λ c. search needs) (λ c. search needs) (λ c. search needs) (λ c. search needs) (λ c. search needs) (λ c. search needs) (λ c. search needs) (λ c. search needs) (λ c. search needs) (λ c. search needs) (λ c. search needs) returns)
+    (tie.spec (λ c κs. search needs) (λ c. search needs) (λ c. search needs) (λ c κs. search needs) (λ c. search needs)
+    (λ c. search needs) (λ c. search needs) (λ c. search needs) (λ c. search needs) (λ c. search needs) (λ c. search needs)
+    (λ c. search needs) returns)
