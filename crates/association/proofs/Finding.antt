@@ -11,7 +11,7 @@ use borrow.Author.Tests.{eqb-true}
 use lib.Dec.{eqb}
 use Rattle.octets.proofs.Alls.{and-left}
 use Rattle.image.specs.Image.{countOf, spiOf}
-use Rattle.association.specs.Search.{matches, firstFrom, entryFor}
+use Rattle.association.specs.Search.{hasSpi, matches, firstFrom, entryFor}
 use Rattle.association.specs.declared.search.Found.{Found}
 use Rattle.association.specs.declared.search.Found.the-variants as found
 use Rattle.association.specs.declared.search.Wanted.{Wanted}
@@ -88,8 +88,9 @@ found-nothing image w e i h = first-nothing (countOf image) 0 (matches image w) 
 
 -- what an entry that matches has
 pub matched-spi : (image : List ℕ) (w : Wanted) (i : ℕ) → matches image w i ≡ true → spiOf image i ≡ w .spi
-unfolding matches
-matched-spi image w i e = eqb-true (spiOf image i) (w .spi) (and-left (eqb (spiOf image i) (w .spi)) _ e)
+unfolding matches hasSpi
+matched-spi image w i e =
+    eqb-true (spiOf image i) (w .spi) (and-left (eqb (spiOf image i) (w .spi)) _ (and-left (hasSpi image (w .desk) (w .spi) i) _ e))
 
 -- in a valid image no other entry matches, so the one that does is found
 pub matched-once : (image : List ℕ) → Valid image → (w : Wanted) (i j : ℕ) → i < countOf image → j < countOf image
