@@ -6,7 +6,10 @@ use mathlib.Core.Bool.{Bool}
 use lib.Dec.{ltb}
 use Rattle.kinds.specs.Kinds.{Kind, kindOf, withCheckField}
 use Rattle.bodies.specs.Body.{lastDesk}
-pub use Rattle.judging.specs.declared.said.Said.{Said}
+use Rattle.judging.specs.declared.said.Said as code
+
+abbrev pub Said : Type 0
+Said = code.Said
 
 -- the kind by which the frame is read
 abbrev pub kindSaid : Said → Kind
