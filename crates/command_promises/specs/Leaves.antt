@@ -4,6 +4,7 @@
 -- Assumes nothing.
 use Prim.Native.Nat.{ℕ, _+_, _-_, _/_, _≤_, min}
 use mathlib.Core.Path.{_≡_}
+use mathlib.Core.Bool.{cond}
 use mathlib.Core.List.{List, [], _∷_, _++_}
 use lib.ListN.{length, set, take, drop}
 use Rattle.octets.specs.Lists.{octet, Octets}
@@ -11,9 +12,9 @@ use Rattle.octets.specs.Numbers.{numberAt, bytes}
 use Rattle.marks.specs.Stores.{stored}
 use Rattle.marks.specs.declared.plans.Store.{Store}
 use Rattle.commands.specs.Commanding.{commanded, commandedCut}
-use Rattle.promises.specs.Images.{spiAt, place, stateAt, lastAt, ImageRules, Agreeing}
+use Rattle.promises.specs.Images.{shapeIn, spiAt, place, stateAt, keyAt, HasId, lastAt, ImageRules, Agreeing}
 use Rattle.promises.specs.Leaves.{MarkAlone}
-use Rattle.command_promises.specs.Rows.{Names}
+use Rattle.command_promises.specs.Rows.{Names, keyNamed}
 
 -- whatever the command
 pub record Lawfully (image numbers command output : List ℕ) : Type 0 where
@@ -44,11 +45,16 @@ pub record SetsNumber (image numbers command output : List ℕ) (e n : ℕ) : Ty
   pub size : commanded image numbers command output .length ≡ 0
   pub outputs : commanded image numbers command output .output ≡ output
 
+-- what a rekey stores of the key ID, where the image has a key part; the state comes last
+abbrev pub renames : List ℕ → List ℕ → ℕ → List Store
+renames image command e =
+    cond (shapeIn image .keyPart) (writes (place image e 16) (octet command 5) ∷ writes (place image e 17) (octet command 6) ∷ []) []
+
 -- the command of each tag, under entry e
 pub record LeavesAt (image numbers command output : List ℕ) (e : ℕ) : Type 0 where
   pub start : octet command 0 ≡ 0x1B → Leaves image numbers command output (writes (place image e 3) 2 ∷ []) numbers []
   pub stop : octet command 0 ≡ 0x1E → Leaves image numbers command output (writes (place image e 3) 1 ∷ []) numbers []
-  pub rekey : octet command 0 ≡ 0x16 → Leaves image numbers command output (writes (place image e 3) 1 ∷ []) numbers []
+  pub rekey : octet command 0 ≡ 0x16 → Leaves image numbers command output (renames image command e ++ (writes (place image e 3) 1 ∷ [])) numbers []
   pub expire : octet command 0 ≡ 0x19 → Leaves image numbers command output (writes (place image e 3) 0 ∷ []) numbers []
   pub setWindow : octet command 0 ≡ 0x15
       → Leaves image numbers command output
@@ -64,5 +70,12 @@ pub record CommandLeaving : Type 0 where
       → commanded image numbers command output .answer ≡ 0 → Lawfully image numbers command output
   pub named : (image numbers command output : List ℕ) (e : ℕ) → Octets image → Octets command → length numbers ≡ 32
       → Names image command e → commanded image numbers command output .answer ≡ 0 → LeavesAt image numbers command output e
+  -- activation and deactivation, of the key that has the ID
+  pub activation : (image numbers command output : List ℕ) (k : ℕ) → HasId image (keyNamed command) k → octet command 0 ≡ 0x02
+      → commanded image numbers command output .answer ≡ 0
+      → Leaves image numbers command output (writes (keyAt image k + 2) 1 ∷ []) numbers []
+  pub deactivation : (image numbers command output : List ℕ) (k : ℕ) → HasId image (keyNamed command) k → octet command 0 ≡ 0x03
+      → commanded image numbers command output .answer ≡ 0
+      → Leaves image numbers command output (writes (keyAt image k + 2) 2 ∷ []) numbers []
   pub ping : (image numbers command output : List ℕ) → octet command 0 ≡ 0x31
       → commanded image numbers command output .answer ≡ 0 → Leaves image numbers command output [] numbers (0xB1 ∷ 0 ∷ 0 ∷ [])
