@@ -127,7 +127,7 @@ module _ (image : List ℕ) where
     keyIndex image at count id,
     key-there id (ltb-true (keyIndex image at count id) count (search and-left)),
     sym (key-state image (keyIndex image at count id))
-    ∙ eqb-true (keyStateAt image at (keyIndex image at count id)) state (search and-right),
+        ∙ eqb-true (keyStateAt image at (keyIndex image at count id)) state (search and-right),
   )
 
   -- and where the IDs rise, the only one
