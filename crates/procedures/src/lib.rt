@@ -12,5 +12,6 @@ pub use plans::plan_of;
 pub use procedure::Called;
 pub use procedure::Procedure;
 pub use tags::called_by;
+pub use tags::key_command;
 pub use values::allowed;
 pub use values::new_number;
