@@ -1,5 +1,6 @@
--- Document 02, requests 5, 9 and 10: a command is decided, then carried out, as a frame is. What it leaves, from the image, the numbers and the output as
--- they were; and the image where power fails after j of its stores. The answer is the first that applies of 1, 2, 19, 13, 14, 15, 16, 17, 18 and 6.
+-- Document 02, requests 5, 9 and 10: a command is decided, then carried out, as a frame is. What it leaves, from the image, the numbers and
+-- the output as they were; and the image where power fails after j of its stores. The answer is the first that applies of 1, 2, 19, 13, 14,
+-- 15, 16, 17, 18 and 6.
 -- Assumes nothing.
 use Prim.Native.Nat.{ℕ}
 use mathlib.Core.Bool.{Bool, true, false, cond, not, _&&_, _||_}
@@ -33,8 +34,8 @@ abbrev pub callsNone : Called → Bool
 callsNone (calls.Procedure p) = false
 callsNone calls.Nothing = true
 
--- the entry that a value names, and whether the table has it for that desk; a procedure that names none is carried out with entry 0, which it neither
--- reads nor changes
+-- the entry that a value names, and whether the table has it for that desk; a procedure that names none is carried out with entry 0, which
+-- it neither reads nor changes
 unfoldable pub entryNamed : Procedure → List ℕ → ℕ → List ℕ → Found
 entryNamed p image desk value = cond (p .names) (withSpi image desk (spiNamed value)) (found.At 0)
 
