@@ -32,6 +32,7 @@ use Rattle.promises.specs.Forms.{formOf}
 use Rattle.promises.specs.Images as words
 use Rattle.promises.specs.Versions.{shapeOf}
 use Rattle.promises.specs.Cases.{imageWith, securedC, clearTc, room}
+use Rattle.promises.specs.KeyedCases as keyed
 
 unfoldable pub octets : Unit {0}
 unfolding trailingZeros tab part all number bytes same
@@ -74,7 +75,7 @@ calls = tt
 
 -- what the cases speak of
 unfoldable pub examples : Unit {0}
-unfolding imageWith securedC clearTc room
+unfolding imageWith securedC clearTc room keyed.keyedBody keyed.keyOf keyed.keyedImage keyed.sharedImage keyed.securedWith
 examples = tt
 
 unfoldable pub everything : Unit {0}

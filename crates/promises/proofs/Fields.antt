@@ -121,6 +121,20 @@ shapes version = by-version (eqb version 4) (eqb version 3) (eqb version 2)
           begins = omega arith;
         }
 
+-- versions 1 and 2 have their numbers alike
+pub record Old (shape : Shape) : Type 0 where
+  pub front : shape .front ≡ 2
+  pub body : shape .body ≡ 52
+  pub mark : shape .mark ≡ 48
+  pub keyPart : shape .keyPart ≡ false
+
+pub old-shape : (version : ℕ) → version ≤ 2 → Old (shapeOf version)
+unfolding shapeOf
+old-shape zero h = record { front = refl; body = refl; mark = refl; keyPart = refl }
+old-shape (suc zero) h = record { front = refl; body = refl; mark = refl; keyPart = refl }
+old-shape (suc (suc zero)) h = record { front = refl; body = refl; mark = refl; keyPart = refl }
+old-shape (suc (suc (suc n))) h = absurd (omega arith)
+
 -- ---- the body of an entry
 
 module _ (image : List ℕ) where

@@ -88,7 +88,7 @@ module _ (s t : List ℕ) (i j : ℕ) (body : wholeBodyAt s i ≡ wholeBodyAt t 
   same-size : shapeIn s .body ≡ shapeIn t .body
   same-size = sym (length-part (place s i 0) (shapeIn s .body) s) ∙ ap length body ∙ length-part (place t j 0) (shapeIn t .body) t
 
-  same-mark : markIn s i ≡ markIn t j
+  pub same-mark : markIn s i ≡ markIn t j
   unfolding markIn
   same-mark = cc (same-body, here .mark, there .mark, here .tail, there .tail, same-size)
 
