@@ -101,6 +101,7 @@ silent procedure.ReadNumber e state version body last value = let z : _≡_ {A =
 silent procedure.Ping e state version body last value = (refl, refl)
 silent procedure.Activation e state version body last value = (refl, refl)
 silent procedure.Deactivation e state version body last value = (refl, refl)
+silent procedure.Inventory e state version body last value = (refl, refl)
 
 -- and its key does not depend on an entry
 entryless : (p : code.Procedure) → procedureIs p .names ≡ false → (image value : List ℕ) (d e : ℕ)
@@ -116,6 +117,7 @@ entryless procedure.ReadNumber n image value d e = (refl, refl)
 entryless procedure.Ping n image value d e = (refl, refl)
 entryless procedure.Activation n image value d e = (refl, refl)
 entryless procedure.Deactivation n image value d e = (refl, refl)
+entryless procedure.Inventory n image value d e = (refl, refl)
 
 -- ---- the rules behind the entry
 
@@ -152,14 +154,14 @@ module _ (image numbers command output : List ℕ) (octets : Octets image) (rule
   room = length output
 
   abbrev replied : ℕ → ℕ
-  replied d = length (procedureIs p .reply (spiNamed value) (stateOf (bodyOf image d)) (lastAt numbers d))
+  replied d = length (procedureIs p .reply image d (lastAt numbers d) value)
 
   long : frontLength ≤ length command
   long = called-long command p c
 
   roomy : (d : ℕ) → Numbered (rule answer.NoRoom (rowIn command .reply image command ≤ room) noMore) (first ((6, ltb room (replied d)) ∷ []))
   roomy d =
-      let same = row .replies image command (spiNamed value) (stateOf (bodyOf image d)) (lastAt numbers d) in
+      let same = row .replies image command d (lastAt numbers d) in
       next-rule answer.NoRoom (ltb room (replied d)) _ _ _
       (λ t r. omega (arith, ltb-true room (replied d) t))
       (λ t. omega (arith, ltb-false room (replied d) t))

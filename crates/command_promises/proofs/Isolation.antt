@@ -30,7 +30,8 @@ use Rattle.link.proofs.Carried.{counted}
 use Rattle.link.proofs.Leaving.{left-done, left-refused, handed-result}
 use Rattle.command_form.specs.Form as asked
 use Rattle.command_form.specs.Form.{tagOf, valueOf, spiNamed, keyAsked}
-use Rattle.procedures.specs.Procedures.{hasKey, keyThere, keyActive, unserved, freed, procedureIs, called}
+use Rattle.named_keys.specs.NamedKeys.{hasKey, keyThere, keyActive, unserved, freed}
+use Rattle.procedures.specs.Procedures.{procedureIs, called}
 use Rattle.procedures.specs.declared.procedure.Called.{Called}
 use Rattle.procedures.specs.declared.procedure.Called.the-variants as calls
 use Rattle.procedures.specs.declared.procedure.Procedure as code
@@ -47,6 +48,7 @@ use Rattle.promises.proofs.Valids.{rules-valid, agreement-tested}
 use Rattle.command_promises.specs.Answers.{rowIn}
 use Rattle.command_promises.specs.Isolation.{SameNamed, both, neither, none, SameKeys, CommandIsolation}
 use Rattle.command_promises.specs.Rows.{Names, keyNamed}
+use Rattle.command_promises.proofs.Inventories.{inventory-is, same-inventory}
 use Rattle.command_promises.proofs.NamedKeys.{unserved-so, so-unserved}
 use Rattle.command_promises.proofs.Rows.{Fits, row-fits}
 use Rattle.command_promises.proofs.Shifted.{shifted}
@@ -107,6 +109,24 @@ count procedure.ReadNumber image other i j n value same raises = refl
 count procedure.Ping image other i j n value same raises = refl
 count procedure.Activation image other i j n value same raises = refl
 count procedure.Deactivation image other i j n value same raises = refl
+count procedure.Inventory image other i j n value same raises = refl
+
+-- ---- the reply: that of a status tells the state, and no other reads the body
+
+replied : (p : code.Procedure) → procedureIs p .names ≡ true → (image other : List ℕ) (i j last : ℕ) (value : List ℕ) → bodyOf image i ≡ bodyOf other j
+    → procedureIs p .reply image i last value ≡ procedureIs p .reply other j last value
+replied procedure.Start n image other i j last value body = refl
+replied procedure.Stop n image other i j last value body = refl
+replied procedure.Rekey n image other i j last value body = refl
+replied procedure.Expire n image other i j last value body = refl
+replied procedure.SetNumber n image other i j last value body = refl
+replied procedure.SetWindow n image other i j last value body = refl
+replied procedure.Status n image other i j last value body = rw body refl
+replied procedure.ReadNumber n image other i j last value body = refl
+replied procedure.Ping n image other i j last value body = refl
+replied procedure.Activation n image other i j last value body = refl
+replied procedure.Deactivation n image other i j last value body = refl
+replied procedure.Inventory n image other i j last value body = let z : _≡_ {A = ℕ} 0 1 = cc in absurd (omega arith)
 
 -- ---- what is asked of a key is the same, where the IDs and states of the keys are
 
@@ -187,6 +207,7 @@ module _ (s t c : List ℕ) (same : SameKeys s t c) where
     same-key procedure.Ping n = (refl, refl)
     same-key procedure.Activation n = let z : _≡_ {A = ℕ} 0 1 = cc in absurd (omega arith)
     same-key procedure.Deactivation n = let z : _≡_ {A = ℕ} 0 1 = cc in absurd (omega arith)
+    same-key procedure.Inventory n = (refl, refl)
 
   -- a procedure that names no association reads none
   module _ (here : validImage s ≡ true) (there : validImage t ≡ true) (l r : List ℕ) (room : ℕ) where
@@ -214,6 +235,20 @@ module _ (s t c : List ℕ) (same : SameKeys s t c) where
         record {
           answer = rw (has-same (asked.keyNamed (valueOf c)), free) refl;
           given = λ z. record { stores = refl; size = refl; result = refl; long = refl };
+        }
+
+    unnaming procedure.Inventory is e =
+        let lowest = asked.firstNamed (valueOf c) in
+        let highest = asked.lastNamed (valueOf c) in
+        let tells : procedureIs procedure.Inventory .reply s 0 0 (valueOf c) ≡ procedureIs procedure.Inventory .reply t 0 0 (valueOf c) =
+        inventory-is s lowest highest
+        ∙ same-inventory s t lowest highest (keyCountIn s) (same .ids) (same .states) refl (sym (same .count))
+        ∙ sym (inventory-is t lowest highest)
+        in
+        record {
+          answer =
+              ap (λ (x : List ℕ). first ((15, false) ∷ (16, false) ∷ (17, false) ∷ (18, false) ∷ (6, ltb room (length x)) ∷ [])) tells;
+          given = λ z. record { stores = refl; size = ap length tells; result = tells; long = refl };
         }
 
 -- ---- one image in good standing
@@ -276,17 +311,18 @@ module _ (s l t r c : List ℕ) (room : ℕ) (here : Standing s l) (there : Stan
       let parts : layout s .keys ≡ layout t .keys = ap (λ (v : ℕ). layoutOf v .keys) version in
       let ids : keyIdIn s i ≡ keyIdIn t j = ap₂ keyIdOf version bodies in
       let same = same-key s t c keys parts i j ids (valueOf c) p names in
+      let reply = replied p names s t i j (lastAt r j) (valueOf c) bodies in
       let n : ℕ = procedureIs p .number (lastAt l i) (valueOf c) in
       let marks : markIn s i ≡ markIn t j = ap₂ (λ (v : ℕ) (b : List ℕ). markOf v b) version bodies in
       let raises : length (storesFor s i n) ≡ length (storesFor t j n) =
       counted s i n (ok s l c room here) hi ∙ ap (λ (m : ℕ). n / 64 - m) marks ∙ sym (counted t j n (ok t r c room there) hj) in
       record {
-        answer = rw (version, bodies, number, same .0, same .1) refl;
+        answer = rw (version, bodies, number, same .0, same .1, reply) refl;
         given = λ z.
             record {
               stores = count p s t i j n (valueOf c) parts raises ∙ ap (λ (k : ℕ). length (procedureIs p .stores t j (procedureIs p .number k (valueOf c)) (valueOf c))) number;
-              size = rw (bodies, number) refl;
-              result = rw (bodies, number) refl;
+              size = rw (number, reply) refl;
+              result = rw (number, reply) refl;
               long = refl;
             };
       }

@@ -43,7 +43,8 @@ use Rattle.promises.specs.Leaves.{MarkAlone}
 use Rattle.promises.proofs.Fields.{shapes, stands, state-at, key-place}
 use Rattle.promises.proofs.Stored.{outside}
 use Rattle.promises.proofs.Valids.{code-of-mark, rules-kept, agreement}
-use Rattle.command_promises.specs.Leaves.{Lawfully, Leaves, SetsNumber, LeavesAt, CommandLeaving, writes, renames}
+use Rattle.command_promises.specs.Leaves.{Lawfully, Leaves, SetsNumber, LeavesAt, CommandLeaving, writes, renames, inventoryReply}
+use Rattle.command_promises.proofs.Inventories.{inventory-is}
 use Rattle.command_promises.specs.Rows.{Names, keyNamed}
 use Rattle.command_promises.proofs.NamedKeys.{index-is, turnedImage, turned-agrees}
 use Rattle.command_promises.proofs.Shifted.{shifted}
@@ -190,7 +191,7 @@ module _ (image numbers c output : List ℕ) (z : commanded image numbers c outp
         by : (stores : List Store) (last reply : List ℕ)
             → storesOf (procedureIs r) image numbers e (valueOf c) ≡ stores
             → set numbers e (numberFor (procedureIs r) numbers e (valueOf c)) ≡ last
-            → procedureIs r .reply (spiNamed (valueOf c)) (stateOf (bodyOf image e)) (lastAt numbers e) ≡ reply
+            → procedureIs r .reply image e (lastAt numbers e) (valueOf c) ≡ reply
             → Leaves image numbers c output stores last reply
         by stores last reply s l p =
             leaves stores last reply (ap (λ (x : Reply). x .stores) settled ∙ s)
@@ -203,7 +204,7 @@ module _ (image numbers c output : List ℕ) (z : commanded image numbers c outp
       moved : (r : code.Procedure) → withTag (procedureIs r .tag) procedures ≡ calls.Procedure r → procedureIs r .names ≡ true → (state : ℕ)
           → storesOf (procedureIs r) image numbers e (valueOf c) ≡ writes (bodyAt image e + 3) state ∷ []
           → numberFor (procedureIs r) numbers e (valueOf c) ≡ lastAt numbers e
-          → procedureIs r .reply (spiNamed (valueOf c)) (stateOf (bodyOf image e)) (lastAt numbers e) ≡ []
+          → procedureIs r .reply image e (lastAt numbers e) (valueOf c) ≡ []
           → octet c 0 ≡ procedureIs r .tag → Leaves image numbers c output (writes (place image e 3) state ∷ []) numbers []
       moved r w n state s l p t =
           by r (procedure-is r w t) n _ _ _ (s ∙ ap (λ (a : ℕ). writes a state ∷ []) (stands image e 3))
@@ -290,6 +291,23 @@ module _ (image numbers c output : List ℕ) (z : commanded image numbers c outp
             setNumber = λ t. rw (shifted c 2 12) at (sets t refl);
           }
 
+-- ---- a question that names no association
+
+told : (image numbers c output : List ℕ) (z : commanded image numbers c output .answer ≡ 0) (r : code.Procedure)
+    → withTag (procedureIs r .tag) procedures ≡ calls.Procedure r → octet c 0 ≡ procedureIs r .tag → (reply : List ℕ)
+    → ((e : ℕ) → storesOf (procedureIs r) image numbers e (valueOf c) ≡ [])
+    → ((e : ℕ) → numberFor (procedureIs r) numbers e (valueOf c) ≡ lastAt numbers e)
+    → ((e : ℕ) → procedureIs r .reply image e (lastAt numbers e) (valueOf c) ≡ reply)
+    → Leaves image numbers c output [] numbers reply
+told image numbers c output z r w t reply stores number replies =
+    let d = is-done image numbers c output z in
+    let so = procedure-is image numbers c output z r w t in
+    let e = d .entry in
+    let settled = d .reply ∙ ap (λ (x : code.Procedure). replyAt 0 (procedureIs x) image numbers e (valueOf c)) so in
+    leaves image numbers c output z [] numbers reply (ap (λ (x : Reply). x .stores) settled ∙ stores e)
+    (ap (λ (x : Reply). set numbers (x .entry) (x .number)) settled ∙ ap (set numbers e) (number e) ∙ set-getD numbers e 0)
+    (ap (λ (x : Reply). x .result) settled ∙ replies e)
+
 -- ---- the state of a key
 
 module _ (image numbers c output : List ℕ) (k : ℕ) (has : HasId image (keyNamed c) k) (z : commanded image numbers c output .answer ≡ 0) where
@@ -299,7 +317,7 @@ module _ (image numbers c output : List ℕ) (k : ℕ) (has : HasId image (keyNa
   turned : (r : code.Procedure) → withTag (procedureIs r .tag) procedures ≡ calls.Procedure r → octet c 0 ≡ procedureIs r .tag → (state : ℕ)
       → ((e : ℕ) → storesOf (procedureIs r) image numbers e (valueOf c) ≡ keyStateIn image id state ∷ [])
       → ((e : ℕ) → numberFor (procedureIs r) numbers e (valueOf c) ≡ lastAt numbers e)
-      → ((spi s l : ℕ) → procedureIs r .reply spi s l ≡ [])
+      → ((e l : ℕ) → procedureIs r .reply image e l (valueOf c) ≡ [])
       → Leaves image numbers c output (writes (keyAt image k + 2) state ∷ []) numbers []
   turned r w t state stores number reply =
       let d = is-done image numbers c output z in
@@ -313,7 +331,7 @@ module _ (image numbers c output : List ℕ) (k : ℕ) (has : HasId image (keyNa
       leaves image numbers c output z _ numbers []
       (ap (λ (x : Reply). x .stores) settled ∙ stores e ∙ ap (λ (p : ℕ). writes p state ∷ []) at)
       (ap (λ (x : Reply). set numbers (x .entry) (x .number)) settled ∙ ap (set numbers e) (number e) ∙ set-getD numbers e 0)
-      (ap (λ (x : Reply). x .result) settled ∙ reply (spiNamed (valueOf c)) (stateOf (bodyOf image e)) (lastAt numbers e))
+      (ap (λ (x : Reply). x .result) settled ∙ reply e (lastAt numbers e))
 
 -- ---- all of them
 
@@ -324,15 +342,14 @@ command-leaving =
       always = λ image numbers c output octets spoken thirtyTwo z. lawfully image numbers c output z octets spoken thirtyTwo;
       named = λ image numbers c output e octets spoken thirtyTwo names z. at-entry image numbers c output z octets spoken thirtyTwo e names;
       activation = λ image numbers c output k has t z.
-          turned image numbers c output k has z procedure.Activation refl t 1 (λ e. refl) (λ e. refl) (λ spi s l. refl);
+          turned image numbers c output k has z procedure.Activation refl t 1 (λ e. refl) (λ e. refl) (λ e l. refl);
       deactivation = λ image numbers c output k has t z.
-          turned image numbers c output k has z procedure.Deactivation refl t 2 (λ e. refl) (λ e. refl) (λ spi s l. refl);
+          turned image numbers c output k has z procedure.Deactivation refl t 2 (λ e. refl) (λ e. refl) (λ e l. refl);
       ping = λ image numbers c output t z.
-          let d = is-done image numbers c output z in
-          let so = procedure-is image numbers c output z procedure.Ping refl t in
-          let settled = d .reply ∙ ap (λ (x : code.Procedure). replyAt 0 (procedureIs x) image numbers (d .entry) (valueOf c)) so in
-          leaves image numbers c output z [] numbers (0xB1 ∷ 0 ∷ 0 ∷ [])
-          (ap (λ (x : Reply). x .stores) settled)
-          (ap (λ (x : Reply). set numbers (x .entry) (x .number)) settled ∙ set-getD numbers (d .entry) 0)
-          (ap (λ (x : Reply). x .result) settled);
+          told image numbers c output z procedure.Ping refl t _ (λ e. refl) (λ e. refl) (λ e. refl);
+      inventory = λ image numbers c output t z.
+          told image numbers c output z procedure.Inventory refl t _ (λ e. refl) (λ e. refl)
+          (λ e.
+          inventory-is image (asked.firstNamed (valueOf c)) (asked.lastNamed (valueOf c))
+          ∙ ap₂ (inventoryReply image) (shifted c 0 2) (shifted c 2 2));
     }

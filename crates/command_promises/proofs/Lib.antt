@@ -3,6 +3,7 @@ pub mod Cases
 pub mod Channels
 pub mod Effects
 pub mod FreshIvs
+pub mod Inventories
 pub mod Isolation
 pub mod Keeps
 pub mod Leaves

@@ -20,7 +20,7 @@ use Rattle.keys.proofs.FoundKeys.{ValidKeys}
 use Rattle.numbers.specs.Numbers.{agrees}
 use Rattle.numbers.proofs.LoadedNumbers.{agreed, agreeing}
 use Rattle.commands.proofs.Turning.{Turns, marks-stay}
-use Rattle.procedures.specs.Procedures.{hasKey, keyThere, keyActive, idleAt, unserved, freed}
+use Rattle.named_keys.specs.NamedKeys.{hasKey, keyThere, keyActive, idleAt, unserved, freed}
 use Rattle.promises.specs.Images.{shapeIn, keyCountIn, partPlace, HasId, KeyThere, KeyInState}
 use Rattle.promises.proofs.Fields.{shapes, state-at, key-id-at, key-count}
 use Rattle.promises.proofs.Valids.{implied, implies, key-there, key-found, found-key, key-in-state}

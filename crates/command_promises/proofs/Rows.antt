@@ -17,18 +17,20 @@ use Rattle.bodies.proofs.ValidBodies as bodies
 use Rattle.image.specs.Image.{versionOf, layout, bodyOf, keyIdIn, validImage}
 use Rattle.numbers.proofs.Agreement.{accepted}
 use Rattle.command_form.specs.Channels.{namesOne, channelCount, channelNamed, channelsRight}
-use Rattle.command_form.specs.Form.{frontLength, valueOf, keyAsked, keyNamed, numberBehindKey, windowAsked, numberAsked}
+use Rattle.command_form.specs.Form.{frontLength, valueOf, keyAsked, keyNamed, firstNamed, lastNamed, numberBehindKey, windowAsked, numberAsked}
 use Rattle.procedures.specs.Procedures.{Procedure, procedureIs, procedures, withTag, mostRise}
 use Rattle.procedures.specs.declared.procedure.Called.{Called}
 use Rattle.procedures.specs.declared.procedure.Called.the-variants as calls
 use Rattle.procedures.specs.declared.procedure.Procedure as code
 use Rattle.procedures.specs.declared.procedure.Procedure.the-variants as procedure
-use Rattle.promises.specs.Images.{kindAt, lastAt, BodyRules}
+use Rattle.promises.specs.Images.{kindAt, keyCountIn, lastAt, BodyRules}
 use Rattle.promises.proofs.Answers.{accepting}
 use Rattle.promises.proofs.Fields.{shapes, kind-at, window-at, key-id-at}
 use Rattle.promises.proofs.Valids.{between-tested, key-found}
 use Rattle.command_promises.specs.Rows.{Row, IsChannel, startRow, stopRow, rekeyRow, expireRow, setNumberRow}
-use Rattle.command_promises.specs.Rows.{setWindowRow, statusRow, readNumberRow, pingRow, activationRow, deactivationRow, noRow, rowOf}
+use Rattle.command_promises.specs.Rows.{setWindowRow, statusRow, readNumberRow, pingRow, activationRow, deactivationRow, inventoryRow, noRow, rowOf}
+use Rattle.command_promises.specs.Rows.{keysBetween}
+use Rattle.command_promises.proofs.Inventories.{inventory-size}
 use Rattle.command_promises.proofs.Channels.{names-channel, channel-named}
 use Rattle.command_promises.proofs.NamedKeys.{key-is, is-key, in-state, needs-key, needed-key, needs-active, needed-active, key-freed, freed-key}
 use Rattle.command_promises.proofs.Shifted.{shifted}
@@ -47,6 +49,7 @@ rowFor (calls.Procedure procedure.ReadNumber) = readNumberRow
 rowFor (calls.Procedure procedure.Ping) = pingRow
 rowFor (calls.Procedure procedure.Activation) = activationRow
 rowFor (calls.Procedure procedure.Deactivation) = deactivationRow
+rowFor (calls.Procedure procedure.Inventory) = inventoryRow
 rowFor calls.Nothing = noRow
 
 either : (t : Bool) (x y : Called) (row : Row) → row ≡ rowFor y → cond t (rowFor x) row ≡ rowFor (cond t x y)
@@ -66,7 +69,8 @@ row-of tag =
     (either (eqb tag 0x10) _ _ _
     (either (eqb tag 0x31) _ _ _
     (either (eqb tag 0x02) _ _ _
-    (either (eqb tag 0x03) _ calls.Nothing _ refl))))))))))
+    (either (eqb tag 0x03) _ _ _
+    (either (eqb tag 0x07) _ calls.Nothing _ refl)))))))))))
 
 -- ---- a procedure and its row
 
@@ -84,7 +88,7 @@ pub record Fits (p : Procedure) (row : Row) : Type 0 where
   pub knows : (image command : List ℕ) (e : ℕ) → validImage image ≡ true → row .Known image command e → p .knows image e (valueOf command) ≡ true
   pub readied : (image command : List ℕ) (e : ℕ) → validImage image ≡ true → p .ready image e (valueOf command) ≡ true → row .Ready image command e
   pub readies : (image command : List ℕ) (e : ℕ) → validImage image ≡ true → row .Ready image command e → p .ready image e (valueOf command) ≡ true
-  pub replies : (image command : List ℕ) (spi state last : ℕ) → length (p .reply spi state last) ≡ row .reply image command
+  pub replies : (image command : List ℕ) (e last : ℕ) → length (p .reply image e last (valueOf command)) ≡ row .reply image command
 
 -- of a number that has to be one alone
 exact : (size n : ℕ) → eqb n size ≡ true → 3 + n ≡ 3 + size
@@ -163,7 +167,7 @@ start-fits =
       knows = λ image command e v k. needed-key image v (keyIdIn image e) (rw (key-id-at image e) k);
       readied = λ image command e v t. rw (← key-id-at image e) (needs-active image v (keyIdIn image e) t);
       readies = λ image command e v k. needed-active image v (keyIdIn image e) (rw (key-id-at image e) k);
-      replies = λ image command spi state last. refl;
+      replies = λ image command e last. refl;
     }
 
 -- ---- one that asks its state and nothing of its value
@@ -182,7 +186,7 @@ stop-fits =
       knows = λ image command e v k. refl;
       readied = λ image command e v t. tt;
       readies = λ image command e v k. refl;
-      replies = λ image command spi state last. refl;
+      replies = λ image command e last. refl;
     }
 
 expire-fits : Fits (procedureIs procedure.Expire) expireRow
@@ -199,7 +203,7 @@ expire-fits =
       knows = λ image command e v k. refl;
       readied = λ image command e v t. tt;
       readies = λ image command e v k. refl;
-      replies = λ image command spi state last. refl;
+      replies = λ image command e last. refl;
     }
 
 rekey-fits : Fits (procedureIs procedure.Rekey) rekeyRow
@@ -226,7 +230,7 @@ rekey-fits =
       knows = λ image command e v k. needed-key image v (keyAsked (valueOf command)) (rw (shifted command 2 2) k);
       readied = λ image command e v t. rw (← shifted command 2 2) (needs-active image v (keyAsked (valueOf command)) t);
       readies = λ image command e v k. needed-active image v (keyAsked (valueOf command)) (rw (shifted command 2 2) k);
-      replies = λ image command spi state last. refl;
+      replies = λ image command e last. refl;
     }
 
 -- ---- the state of a key
@@ -245,7 +249,7 @@ activation-fits =
       knows = λ image command e v k. is-key image v (keyNamed (valueOf command)) (rw (shifted command 0 2) k);
       readied = λ image command e v t. rw (← shifted command 0 2) (key-found image (keyNamed (valueOf command)) 0 t);
       readies = λ image command e v k. in-state image v (keyNamed (valueOf command)) 0 (rw (shifted command 0 2) k);
-      replies = λ image command spi state last. refl;
+      replies = λ image command e last. refl;
     }
 
 deactivation-fits : Fits (procedureIs procedure.Deactivation) deactivationRow
@@ -262,7 +266,7 @@ deactivation-fits =
       knows = λ image command e v k. is-key image v (keyNamed (valueOf command)) (rw (shifted command 0 2) k);
       readied = λ image command e v t. rw (← shifted command 0 2) (key-freed image v (keyNamed (valueOf command)) t);
       readies = λ image command e v k. freed-key image v (keyNamed (valueOf command)) (rw (shifted command 0 2) k);
-      replies = λ image command spi state last. refl;
+      replies = λ image command e last. refl;
     }
 
 -- ---- the number and the window
@@ -284,7 +288,7 @@ set-number-fits =
       knows = λ image command e v k. refl;
       readied = λ image command e v t. tt;
       readies = λ image command e v k. refl;
-      replies = λ image command spi state last. refl;
+      replies = λ image command e last. refl;
     }
 
 set-window-fits : Fits (procedureIs procedure.SetWindow) setWindowRow
@@ -303,7 +307,7 @@ set-window-fits =
       knows = λ image command e v k. refl;
       readied = λ image command e v t. tt;
       readies = λ image command e v k. refl;
-      replies = λ image command spi state last. refl;
+      replies = λ image command e last. refl;
     }
 
 -- ---- questions
@@ -323,7 +327,7 @@ status-fits =
       knows = λ image command e v k. refl;
       readied = λ image command e v t. tt;
       readies = λ image command e v k. refl;
-      replies = λ image command spi state last. refl;
+      replies = λ image command e last. refl;
     }
 
 read-number-fits : Fits (procedureIs procedure.ReadNumber) readNumberRow
@@ -341,7 +345,7 @@ read-number-fits =
       knows = λ image command e v k. refl;
       readied = λ image command e v t. tt;
       readies = λ image command e v k. refl;
-      replies = λ image command spi state last. refl;
+      replies = λ image command e last. refl;
     }
 
 ping-fits : Fits (procedureIs procedure.Ping) pingRow
@@ -359,7 +363,26 @@ ping-fits =
       knows = λ image command e v k. refl;
       readied = λ image command e v t. tt;
       readies = λ image command e v k. refl;
-      replies = λ image command spi state last. refl;
+      replies = λ image command e last. refl;
+    }
+
+inventory-fits : Fits (procedureIs procedure.Inventory) inventoryRow
+inventory-fits =
+    record {
+      sized = exact 4;
+      sizes = exactly 4;
+      asked = λ state t. tt;
+      asks = λ state s. refl;
+      allowed = λ image numbers command e b long t. tt;
+      allows = λ image numbers command e b long v. refl;
+      named = refl;
+      known = λ image command e v t. tt;
+      knows = λ image command e v k. refl;
+      readied = λ image command e v t. tt;
+      readies = λ image command e v k. refl;
+      replies = λ image command e last.
+          inventory-size image (firstNamed (valueOf command)) (lastNamed (valueOf command))
+          ∙ ap₂ (λ (a b : ℕ). 5 + 3 * keysBetween image a b (keyCountIn image)) (shifted command 0 2) (shifted command 2 2);
     }
 
 -- ---- each of them
@@ -376,6 +399,7 @@ fits procedure.ReadNumber = read-number-fits
 fits procedure.Ping = ping-fits
 fits procedure.Activation = activation-fits
 fits procedure.Deactivation = deactivation-fits
+fits procedure.Inventory = inventory-fits
 
 -- of a command that calls one
 pub row-fits : (tag : ℕ) (p : code.Procedure) → withTag tag procedures ≡ calls.Procedure p → Fits (procedureIs p) (rowOf tag)

@@ -73,6 +73,9 @@ given image command = commanded image (oneNumber 63) command space
 abbrev pub forKey : ℕ → ℕ → List ℕ
 forKey tag id = spoken tag (bytes 2 id)
 
+abbrev pub keysFrom : ℕ → ℕ → List ℕ
+keysFrom first last = spoken 0x07 (bytes 2 first ++ bytes 2 last)
+
 abbrev pub rekeyTo : ℕ → ℕ → List ℕ
 rekeyTo id n = spoken 0x16 (nine ++ (bytes 2 id ++ bytes 12 n))
 
@@ -136,6 +139,14 @@ commandCases =
     ∷ eqb (given imageB (forKey 0x02 0) .answer) 17
     ∷ eqb (given imageB (forKey 0x03 9) .answer) 17
     ∷ eqb (given (oneKeyed 2 1 1 0) (spoken 0x02 (bytes 3 5)) .answer) 13
+    -- the inventory of all, of one, of none, and of an image without keys
+    ∷ same (handed (given (oneKeyed 2 1 1 0) (keysFrom 0 0xFFFF)))
+    (0x87 ∷ 0x00 ∷ 0x08 ∷ 0x00 ∷ 0x02 ∷ 0x00 ∷ 0x05 ∷ 0x00 ∷ 0x00 ∷ 0x06 ∷ 0x01 ∷ [])
+    ∷ same (handed (given (oneKeyed 2 1 1 0) (keysFrom 6 6))) (0x87 ∷ 0x00 ∷ 0x05 ∷ 0x00 ∷ 0x01 ∷ 0x00 ∷ 0x06 ∷ 0x01 ∷ [])
+    ∷ same (handed (given (oneKeyed 2 1 1 0) (keysFrom 6 5))) (0x87 ∷ 0x00 ∷ 0x02 ∷ 0x00 ∷ 0x00 ∷ [])
+    ∷ same (handed (given imageB (keysFrom 0 0xFFFF))) (0x87 ∷ 0x00 ∷ 0x02 ∷ 0x00 ∷ 0x00 ∷ [])
+    ∷ eqb (commanded (oneKeyed 2 1 1 0) (oneNumber 63) (keysFrom 0 0xFFFF) (replicate 10 0) .answer) 6
+    ∷ eqb (given imageB (spoken 0x07 (bytes 2 0)) .answer) 13
     -- start needs the key that its body names
     ∷ same (given (oneKeyed 2 1 1 1) start .image) (oneKeyed 2 1 2 1)
     ∷ eqb (given (oneKeyed 2 1 1 0) start .answer) 18

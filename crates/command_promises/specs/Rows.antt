@@ -3,16 +3,16 @@
 -- any. A command is a tag, a length of two octets and a value; the SPI stands in octets 3 and 4, and what else there is from octet 5 on. A
 -- command that names a key and no association has the key's ID in octets 3 and 4.
 -- Assumes nothing.
-use Prim.Native.Nat.{ℕ, _+_, _*_, _≤_, _<_}
+use Prim.Native.Nat.{ℕ, zero, suc, _+_, _*_, _≤_, _<_}
 use mathlib.Core.Logic.{_≢_}
 use mathlib.Core.Path.{_≡_}
-use mathlib.Core.Bool.{Bool, true, false, cond}
+use mathlib.Core.Bool.{Bool, true, false, cond, _&&_}
 use mathlib.Core.List.{List}
-use lib.Dec.{eqb}
+use lib.Dec.{eqb, leb}
 use lib.ListN.{length}
 use Rattle.octets.specs.Numbers.{numberAt}
 use Rattle.promises.specs.Images.{shapeIn, countIn, spiAt, kindAt, stateAt, spacecraftAt, mapAt, windowAt, keyIdAt, lastAt, ServesChannel, InWindow}
-use Rattle.promises.specs.Images.{KeyThere, KeyInState}
+use Rattle.promises.specs.Images.{keyCountIn, idOfKey, KeyThere, KeyInState}
 
 pub record Row : Type 1 where
   -- the octets of the whole command
@@ -183,6 +183,34 @@ activationRow = keyRow (λ image id. KeyInState image id 0)
 abbrev pub deactivationRow : Row
 deactivationRow = keyRow (λ image id. KeyInState image id 1 × ((i : ℕ) → Serving image id i → ⊥))
 
+-- ---- inventory: a first and a last ID. The reply has two octets for how many keys have an ID from the one to the other, and three for each
+
+abbrev pub isBetween : List ℕ → ℕ → ℕ → ℕ → Bool
+isBetween image first last k = leb first (idOfKey image k) && leb (idOfKey image k) last
+
+-- of the first n keys
+unfoldable pub keysBetween : List ℕ → ℕ → ℕ → ℕ → ℕ
+keysBetween image first last zero = 0
+keysBetween image first last (suc n) = keysBetween image first last n + cond (isBetween image first last n) 1 0
+
+abbrev pub firstNamed : List ℕ → ℕ
+firstNamed command = numberAt 3 2 command
+
+abbrev pub lastNamed : List ℕ → ℕ
+lastNamed command = numberAt 5 2 command
+
+abbrev pub inventoryRow : Row
+inventoryRow =
+    record {
+      Size = λ size. size ≡ 7;
+      names = false;
+      State = anyState;
+      Value = anyValue;
+      Known = noKey;
+      Ready = noKey;
+      reply = λ image command. 5 + 3 * keysBetween image (firstNamed command) (lastNamed command) (keyCountIn image);
+    }
+
 -- ---- no row: no size is right
 
 abbrev pub noRow : Row
@@ -202,4 +230,5 @@ rowOf tag =
     (cond (eqb tag 0x10) readNumberRow
     (cond (eqb tag 0x31) pingRow
     (cond (eqb tag 0x02) activationRow
-    (cond (eqb tag 0x03) deactivationRow noRow))))))))))
+    (cond (eqb tag 0x03) deactivationRow
+    (cond (eqb tag 0x07) inventoryRow noRow)))))))))))

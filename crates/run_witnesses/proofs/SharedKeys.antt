@@ -6,7 +6,8 @@ use mathlib.Core.List.{List, [], _∷_}
 use lib.Dec.{lit<}
 use lib.ListN.{replicate}
 use Rattle.association.specs.Search.{withSpi}
-use Rattle.procedures.specs.Procedures.{unserved, withTag, called}
+use Rattle.named_keys.specs.NamedKeys.{unserved}
+use Rattle.procedures.specs.Procedures.{withTag, called}
 use Rattle.commands.specs.Commanding.{entryNamed, commandReply, commanded, commandedCut}
 use Rattle.promises.specs.Cases.{frameC, room, bare}
 use Rattle.promises.specs.KeyedCases.{keyedBody, keyOf, sharedImage, ivOf}
