@@ -57,15 +57,15 @@ use Rattle.command_promises.proofs.Shifted.{shifted}
 
 -- ---- two replies that report and hand out the same
 
-record Given (q r : Reply) : Type 0 where
-  stores : length (q .stores) ≡ length (r .stores)
-  size : q .size ≡ r .size
-  result : q .result ≡ r .result
-  long : length (q .result) ≡ q .size
+pub record Given (q r : Reply) : Type 0 where
+  pub stores : length (q .stores) ≡ length (r .stores)
+  pub size : q .size ≡ r .size
+  pub result : q .result ≡ r .result
+  pub long : length (q .result) ≡ q .size
 
-record Alike (q r : Reply) : Type 0 where
-  answer : q .answer ≡ r .answer
-  given : q .answer ≡ 0 → Given q r
+pub record Alike (q r : Reply) : Type 0 where
+  pub answer : q .answer ≡ r .answer
+  pub given : q .answer ≡ 0 → Given q r
 
 same-left : (q r : Reply) (s l o t k p : List ℕ) → Alike q r → SameAnswer (left q s l o) (left r t k p)
 same-left q r s l o t k p a = by-answer (ℕ-discrete (q .answer) 0)
@@ -276,10 +276,10 @@ module _ (image numbers : List ℕ) (desk : ℕ) (c : List ℕ) (room : ℕ) (g 
   calls-none seated e = refused-by 13 (omega arith) (by-13 image numbers desk c ok agree seated e)
 
   module _ (seated : wrongDesk desk c ≡ false) (p : code.Procedure) (is : called c ≡ calls.Procedure p) where
-    reply-at : (e : ℕ) → entryNamed (procedureIs p) image desk (valueOf c) ≡ found.At e → q ≡ replyUnder p image numbers e (valueOf c) room
+    pub reply-at : (e : ℕ) → entryNamed (procedureIs p) image desk (valueOf c) ≡ found.At e → q ≡ replyUnder p image numbers e (valueOf c) room
     reply-at e f = sym (command-under image numbers desk c room p e (addresses image numbers desk c ok agree seated p is e f))
 
-    named-at : procedureIs p .names ≡ true → (i : ℕ) → Names image desk c i → entryNamed (procedureIs p) image desk (valueOf c) ≡ found.At i
+    pub named-at : procedureIs p .names ≡ true → (i : ℕ) → Names image desk c i → entryNamed (procedureIs p) image desk (valueOf c) ≡ found.At i
     unfolding entryNamed
     named-at names i n =
         rw names
@@ -311,7 +311,7 @@ module _ (s l t r : List ℕ) (desk : ℕ) (c : List ℕ) (room : ℕ) (here : S
   y = commandReply t r desk c room
 
   -- the same body, read by the same version, and the same number
-  at-both : (p : code.Procedure) → procedureIs p .names ≡ true → SameKeys s t desk c → (i j : ℕ) → i < countOf s → j < countOf t
+  pub at-both : (p : code.Procedure) → procedureIs p .names ≡ true → SameKeys s t desk c → (i j : ℕ) → i < countOf s → j < countOf t
       → versionIn s ≡ versionIn t → wholeBodyAt s i ≡ wholeBodyAt t j → lastAt l i ≡ lastAt r j
       → Alike (replyUnder p s l i (valueOf c) room) (replyUnder p t r j (valueOf c) room)
   unfolding markIn
