@@ -106,14 +106,14 @@ module _ (s : List ℕ) (four : versionIn s ≡ 4) where
         (record { procedure = p; calls = calls; naming = named; names = record { entry = listed; spi = n .0 ∙ shifted c 0 2; seen = n .1 } })
         (ap (λ (x : Reply). x .entry) is)
         (λ j. rw is (managed-touches i _ (does p s l i (valueOf c) named ready .after j)))
-    by-where (nowhere none same) = aside (λ j p h. rw (none, take-nil {A = Store} j) refl) same
-    by-where (turning id state one turns same) =
+    by-where (nowhere empty stays) = aside (λ j p h. rw (empty, take-nil {A = Store} j) refl) stays
+    by-where (turning id state one turns stays) =
         aside
         (λ j p h.
         rw one
         (first-of-one (λ (t : List ℕ). octet t p ≡ octet s p) s (keyStateIn s id state) refl
         (getD-set-other s (keyStatePlace (partAt s) (keyWith s id)) p state 0 (λ e. omega (arith, part-place s))) j))
-        same
+        stays
 
     pub command-acts : q .answer ≡ 0 → Acts s l (Calling s desk c) q
     command-acts z =
@@ -156,18 +156,18 @@ module _ (d : ℕ) (s l t r : List ℕ) (b : Both d s l t r) (desk : ℕ) (c : L
 -- of a procedure that names an association
 plan-same : (p : code.Procedure) → procedureIs p .names ≡ true → (s t : List ℕ) (e n : ℕ) (value : List ℕ) → versionOf t ≡ versionOf s
     → bodyAt t e ≡ bodyAt s e → storesFor t e n ≡ storesFor s e n → procedureIs p .stores t e n value ≡ procedureIs p .stores s e n value
-plan-same procedure.Start named s t e n value version at raises = rw at refl
-plan-same procedure.Stop named s t e n value version at raises = rw at refl
-plan-same procedure.Rekey named s t e n value version at raises = rw (version, at) refl
-plan-same procedure.Expire named s t e n value version at raises = rw at refl
-plan-same procedure.SetNumber named s t e n value version at raises = raises
-plan-same procedure.SetWindow named s t e n value version at raises = rw at refl
-plan-same procedure.Status named s t e n value version at raises = refl
-plan-same procedure.ReadNumber named s t e n value version at raises = refl
-plan-same procedure.Ping named s t e n value version at raises = refl
-plan-same procedure.Activation named s t e n value version at raises = absurd (true≢false (sym named))
-plan-same procedure.Deactivation named s t e n value version at raises = absurd (true≢false (sym named))
-plan-same procedure.Inventory named s t e n value version at raises = refl
+plan-same procedure.Start named s t e n value version place raises = rw place refl
+plan-same procedure.Stop named s t e n value version place raises = rw place refl
+plan-same procedure.Rekey named s t e n value version place raises = rw (version, place) refl
+plan-same procedure.Expire named s t e n value version place raises = rw place refl
+plan-same procedure.SetNumber named s t e n value version place raises = raises
+plan-same procedure.SetWindow named s t e n value version place raises = rw place refl
+plan-same procedure.Status named s t e n value version place raises = refl
+plan-same procedure.ReadNumber named s t e n value version place raises = refl
+plan-same procedure.Ping named s t e n value version place raises = refl
+plan-same procedure.Activation named s t e n value version place raises = absurd (true≢false (sym named))
+plan-same procedure.Deactivation named s t e n value version place raises = absurd (true≢false (sym named))
+plan-same procedure.Inventory named s t e n value version place raises = refl
 
 module _ (d : ℕ) (s l t r : List ℕ) (b : Both d s l t r) (desk : ℕ) (c output : List ℕ) where
   pub command-twin : commandReply s l desk c (length output) .answer ≡ 0 → (e : ℕ) → e < countIn s → Calling s desk c e → ownerAt s e ≡ d
@@ -245,17 +245,18 @@ module _ (d : ℕ) (s l t r : List ℕ) (b : Both d s l t r) (desk : ℕ) (c out
       by-row true e = by-found (withSpi s desk spi) refl
       by-row false e = none e
 
+  command-refused : agrees s l ≡ false → SameAnswer (commanded s l desk c output) (commanded t r desk c output)
+  unfolding commanded
+  command-refused e =
+      refused-alike (commandReply s l desk c (length output)) (commandReply t r desk c (length output)) 2 s l t r output (omega arith)
+      (command-two s l desk c (length output) (b .passed) e)
+      (command-two t r desk c (length output) (b .passedThere) (b .agree ∙ e))
+
   pub command-answered : SameAnswer (commanded s l desk c output) (commanded t r desk c output)
   command-answered = by-agreement (agrees s l) refl
     where
-      refused-both : agrees s l ≡ false → SameAnswer (commanded s l desk c output) (commanded t r desk c output)
-      unfolding commanded
-      refused-both e =
-          refused-alike _ _ 2 s l t r output (omega arith) (command-two s l desk c (length output) (b .passed) e)
-          (command-two t r desk c (length output) (b .passedThere) (b .agree ∙ e))
-
       by-agreement : (a : Bool) → agrees s l ≡ a → SameAnswer (commanded s l desk c output) (commanded t r desk c output)
       by-agreement true e =
           command-isolation .commanding s l t r desk c output output (standing b e) (standing-there b e) refl found-alike
           (same-keys d s l t r b desk c (λ office tag. omega arith))
-      by-agreement false e = refused-both e
+      by-agreement false e = command-refused e

@@ -35,22 +35,22 @@ use Rattle.desks.proofs.Shared.{Framed, Same, framed, same-framed, same
 
 -- ---- side by side
 
-abbrev Beside2 : ℕ → State → State → Type 0
-Beside2 d x y = Both d (x .image) (x .numbers) (y .image) (y .numbers)
+abbrev Abreast : ℕ → State → State → Type 0
+Abreast d x y = Both d (x .image) (x .numbers) (y .image) (y .numbers)
 
 -- what the desk sees of the next states
 record Shown (d : ℕ) (x y : State) : Type 0 where
   image : Same d (x .image) (y .image)
   numbers : (i : ℕ) → i < countIn (x .image) → ownerAt (x .image) i ≡ d → lastAt (y .numbers) i ≡ lastAt (x .numbers) i
 
-abbrev one : {d : ℕ} {x y : State} → Beside2 d x y → Fine x
+abbrev one : {d : ℕ} {x y : State} → Abreast d x y → Fine x
 one b = record { octets = b .octets; passed = b .passed; four = b .four; thirtyTwo = b .thirtyTwo }
 
-two : {d : ℕ} {x y : State} → Beside2 d x y → Fine y
+two : {d : ℕ} {x y : State} → Abreast d x y → Fine y
 two b = record { octets = b .octetsThere; passed = b .passedThere; four = later b; thirtyTwo = b .thirtyTwoThere }
 
 both-next : (d : ℕ) (x y : State) → Fine x → Fine y → agrees (y .image) (y .numbers) ≡ agrees (x .image) (x .numbers) → Shown d x y
-    → Beside2 d x y
+    → Abreast d x y
 both-next d x y f g agree shown =
     record {
       octets = f .octets;
@@ -69,14 +69,14 @@ both-next d x y f g agree shown =
 
 loads-shown : (d : ℕ) (s t any other : List ℕ) → versionIn s ≡ 4 → Same d s t → validImage s ≡ true → validImage t ≡ true
     → Shown d (kept (loaded s any)) (kept (loaded t other))
-loads-shown d s t any other four same passed passed-there =
+loads-shown d s t any other four shared passed passed-there =
     rw (loaded-image s any, loaded-image t other)
     (record {
-      image = same;
+      image = shared;
       numbers = λ i below own.
-          let f : Framed s t = same-framed d s t four same in
+          let f : Framed s t = same-framed d s t four shared in
           loaded-last t other passed-there i (rw (f .count) below)
-          ∙ ap (λ (m : ℕ). 64 * m + 63) (mark-same d s t four same i own)
+          ∙ ap (λ (m : ℕ). 64 * m + 63) (mark-same d s t four shared i own)
           ∙ sym (loaded-last s any passed i below);
     })
 
@@ -100,7 +100,7 @@ cut-lasts x (commandCut desk c output j any) is passed i below = loaded-lasts _ 
 
 -- ---- a step of both
 
-module _ (d : ℕ) (x y : State) (b : Beside2 d x y) where
+module _ (d : ℕ) (x y : State) (b : Abreast d x y) where
   abbrev s : List ℕ
   s = x .image
 
@@ -175,7 +175,7 @@ module _ (d : ℕ) (x y : State) (b : Beside2 d x y) where
   same-shown (command desk c output) spoken f g keys = whole-shown _ _ (commands desk c output spoken) output keys
   same-shown (commandCut desk c output j any) spoken f g keys = cut-shown _ _ (commands desk c output spoken) j any f g keys
 
-  same-both : (v : Step) → Spoken v → SameKeyPart (after x v) (after y v) → Beside2 d (after x v) (after y v)
+  same-both : (v : Step) → Spoken v → SameKeyPart (after x v) (after y v) → Abreast d (after x v) (after y v)
   same-both v spoken keys =
       let m = next x (one b) v spoken in
       let n = next y (two b) v spoken in
@@ -183,7 +183,7 @@ module _ (d : ℕ) (x y : State) (b : Beside2 d x y) where
       (n .agree ∙ ap (λ (a : Bool). anew v || a) (b .agree) ∙ sym (m .agree)) (same-shown v spoken (m .fine) (n .fine) keys)
 
   -- whole calls of the other desk, in each run its own
-  apart-both : (vs ws : List Step) → AllOther d vs → AllOther d ws → SameKeyPart (ran x vs) (ran y ws) → Beside2 d (ran x vs) (ran y ws)
+  apart-both : (vs ws : List Step) → AllOther d vs → AllOther d ws → SameKeyPart (ran x vs) (ran y ws) → Abreast d (ran x vs) (ran y ws)
   apart-both vs ws all others keys =
       let m = others-pass d x vs (one b) all in
       let n = others-pass d y ws (two b) others in
@@ -201,7 +201,7 @@ module _ (d : ℕ) (x y : State) (b : Beside2 d x y) where
 
   -- and a cut one in each
   cut-both : (v w : Step) → By (Other d) v → isCut v ≡ true → By (Other d) w → isCut w ≡ true → SameKeyPart (after x v) (after y w)
-      → Beside2 d (after x v) (after y w)
+      → Abreast d (after x v) (after y w)
   cut-both v w by-v cut-v by-w cut-w keys =
       let m = next x (one b) v (by-spoken (Other d) v by-v) in
       let n = next y (two b) w (by-spoken (Other d) w by-w) in
@@ -211,17 +211,17 @@ module _ (d : ℕ) (x y : State) (b : Beside2 d x y) where
       let agree-y : agrees (after y w .image) (after y w .numbers) ≡ true =
       n .agree ∙ ap (λ (a : Bool). a || agrees t r) (fresh w cut-w)
       in
-      let same : Same d (after x v .image) (after y w .image) =
+      let shared : Same d (after x v .image) (after y w .image) =
       same-then d s t (after x v .image) (after y w .image) (b .four) (b .same) (other-cut d x (one b) v by-v cut-v)
       (other-cut d y (two b) w by-w cut-w) keys
       in
-      let f = same-framed d (after x v .image) (after y w .image) (m .fine .four) same in
+      let f = same-framed d (after x v .image) (after y w .image) (m .fine .four) shared in
       both-next d (after x v) (after y w) (m .fine) (n .fine) (agree-y ∙ sym agree-x)
       (record {
-        image = same;
+        image = shared;
         numbers = λ i below own.
             cut-lasts y w cut-w (n .fine .passed) i (rw (f .count) below)
-            ∙ ap (λ (k : ℕ). 64 * k + 63) (mark-same d (after x v .image) (after y w .image) (m .fine .four) same i own)
+            ∙ ap (λ (k : ℕ). 64 * k + 63) (mark-same d (after x v .image) (after y w .image) (m .fine .four) shared i own)
             ∙ sym (cut-lasts x v cut-v (m .fine .passed) i below);
       })
     where
@@ -230,7 +230,7 @@ module _ (d : ℕ) (x y : State) (b : Beside2 d x y) where
 
 -- ---- the answers of a whole call to the desk
 
-answered : (d : ℕ) (x y : State) → Beside2 d x y → 1 ≤ d → (v : Step) → By (Own d) v → Answered x y v
+answered : (d : ℕ) (x y : State) → Abreast d x y → 1 ≤ d → (v : Step) → By (Own d) v → Answered x y v
 unfolding By Answered
 answered d x y b some (call (load any)) own = tt
 answered d x y b some (call (send said spi clear output)) own =
@@ -253,7 +253,7 @@ spoken-of d (command desk c output) (inr by) = by-spoken (OwnOrOffice d) (comman
 spoken-of d (commandCut desk c output j any) (inl is) = absurd (true≢false (sym is))
 spoken-of d (commandCut desk c output j any) (inr by) = by-spoken (OwnOrOffice d) (commandCut desk c output j any) by
 
-all-answered : (d : ℕ) → 1 ≤ d → (pairs : List Pair) (x y : State) → Beside2 d x y → AllAllowed d pairs → KeyPartSame x y pairs
+all-answered : (d : ℕ) → 1 ≤ d → (pairs : List Pair) (x y : State) → Abreast d x y → AllAllowed d pairs → KeyPartSame x y pairs
     → AnsweredTo d x y pairs
 unfolding Allowed AllAllowed KeyPartSame AnsweredTo here there
 all-answered d some [] x y b allowed keys = tt

@@ -207,32 +207,36 @@ module _ (s l : List ℕ) (passed : validImage s ≡ true) (disagrees : agrees s
   check-two right clear room = rw (passed, disagrees)
 
 module _ (d : ℕ) (s l t r : List ℕ) (b : Both d s l t r) (said : Said) (some : 1 ≤ d) (desk : said .desk ≡ d) where
+  send-refused : (spi : ℕ) (clear output : List ℕ) → agrees s l ≡ false
+      → SameAnswer (secured s l said spi clear output) (secured t r said spi clear output)
+  unfolding secured
+  send-refused spi clear output e =
+      refused-alike (securingReply s l said spi clear (length output)) (securingReply t r said spi clear (length output)) 2 s l t r output
+      (omega arith) (send-two s l (b .passed) e said spi clear (length output))
+      (send-two t r (b .passedThere) (b .agree ∙ e) said spi clear (length output))
+
+  check-refused : (clear output : List ℕ) → agrees s l ≡ false → SameAnswer (checked s l said clear output) (checked t r said clear output)
+  unfolding checked checkedAs
+  check-refused clear output e =
+      refused-alike (checkingReply (comparison s l said clear) s l said clear (length output))
+      (checkingReply (comparison t r said clear) t r said clear (length output)) 2 s l t r output (omega arith)
+      (check-two s l (b .passed) e said (comparison s l said clear) clear (length output))
+      (check-two t r (b .passedThere) (b .agree ∙ e) said (comparison t r said clear) clear (length output))
+
   pub send-answered : (spi : ℕ) (clear output : List ℕ) → SameAnswer (secured s l said spi clear output) (secured t r said spi clear output)
   send-answered spi clear output = by-agreement (agrees s l) refl
     where
-      refused-both : agrees s l ≡ false → SameAnswer (secured s l said spi clear output) (secured t r said spi clear output)
-      unfolding secured
-      refused-both e =
-          refused-alike _ _ 2 s l t r output (omega arith) (send-two s l (b .passed) e said spi clear (length output))
-          (send-two t r (b .passedThere) (b .agree ∙ e) said spi clear (length output))
-
       by-agreement : (a : Bool) → agrees s l ≡ a → SameAnswer (secured s l said spi clear output) (secured t r said spi clear output)
       by-agreement true e =
           isolation .sending s l t r said spi clear output output (standing b e) (standing-there b e) refl
           (found-alike d s l t r b 1 said spi clear some desk)
-      by-agreement false e = refused-both e
+      by-agreement false e = send-refused spi clear output e
 
   pub check-answered : (clear output : List ℕ) → SameAnswer (checked s l said clear output) (checked t r said clear output)
   check-answered clear output = by-agreement (agrees s l) refl
     where
-      refused-both : agrees s l ≡ false → SameAnswer (checked s l said clear output) (checked t r said clear output)
-      unfolding checked checkedAs
-      refused-both e =
-          refused-alike _ _ 2 s l t r output (omega arith) (check-two s l (b .passed) e said (comparison s l said clear) clear (length output))
-          (check-two t r (b .passedThere) (b .agree ∙ e) said (comparison t r said clear) clear (length output))
-
       by-agreement : (a : Bool) → agrees s l ≡ a → SameAnswer (checked s l said clear output) (checked t r said clear output)
       by-agreement true e =
           isolation .checking s l t r said clear output output (standing b e) (standing-there b e) refl
           (found-alike d s l t r b 2 said (spiOn said clear) clear some desk)
-      by-agreement false e = refused-both e
+      by-agreement false e = check-refused clear output e

@@ -152,7 +152,7 @@ module _ (d : ℕ) (x : State) (f : Fine x) where
       (sees : (e : ℕ) → E e → Sees u desk e) where
     sees-none : (e : ℕ) → ownerAt u e ≡ d → Sees u desk e → ⊥
     sees-none e mine (inl office) = other .0 office
-    sees-none e mine (inr own) = other .1 (sym own ∙ mine)
+    sees-none e mine (inr is) = other .1 (sym is ∙ mine)
 
     is-beside : Beside d u n q
     is-beside = by-kind (kind d u n (f .four) E q acts)
@@ -228,7 +228,7 @@ pub record Passes (d : ℕ) (x y : State) : Type 0 where
 pub others-pass : (d : ℕ) (x : State) (vs : List Step) → Fine x → AllOther d vs → Passes d x (ran x vs)
 unfolding AllOther ran
 others-pass d x [] f all =
-    record { fine = f; agree = refl; aside = record { image = near-itself d (x .image); numbers = λ i below own. refl } }
+    record { fine = f; agree = refl; aside = record { image = near-itself d (x .image); numbers = λ i below mine. refl } }
 others-pass d x (v ∷ vs) f all =
     let one = next x f v (by-spoken (Other d) v (all .0)) in
     let first = other-aside d x f v (all .0) (all .1) in
@@ -241,7 +241,7 @@ others-pass d x (v ∷ vs) f all =
       aside =
           record {
             image = near-then d (x .image) (after x v .image) (ran (after x v) vs .image) (f .four) (first .image) (rest .aside .image);
-            numbers = λ i below own.
-                rest .aside .numbers i (rw (g .count) below) (g .owner i below ∙ own) ∙ first .numbers i below own;
+            numbers = λ i below mine.
+                rest .aside .numbers i (rw (g .count) below) (g .owner i below ∙ mine) ∙ first .numbers i below mine;
           };
     }

@@ -1,17 +1,15 @@
 -- What a desk's calls read of an image is the same in two images that have in common what the desk sees: SPIs, the bodies that it owns, and
 -- keys.
 -- Assumes nothing.
-use Prim.Native.Nat.{ℕ, zero, suc, _+_, _*_, _/_, _≤_, _<_}
+use Prim.Native.Nat.{ℕ, zero, suc, _+_, _*_, _<_}
 use mathlib.Core.Path.{_≡_, refl, sym, ap, ap₂, _∙_}
 use mathlib.Core.Bool.{Bool, true, cond}
 use mathlib.Core.List.{List}
 use native.Mathlib.Omega.{arith}
-use lib.Dec.{eqb, ltb}
 use Rattle.octets.specs.Lists.{octet, part}
 use Rattle.octets.specs.Numbers.{numberAt}
 use Rattle.octets.proofs.Numbers.{numberAt-same}
 use Rattle.octets.proofs.Parts.{part-same}
-use Rattle.marks.specs.declared.plans.Plan.the-variants as plan
 use Rattle.marks.specs.Stores.{storesOf}
 use Rattle.image.specs.Image.{versionOf, countOf, bodyAt, bodyOf, markAt, markIn, laidOut, validImage}
 use Rattle.image.proofs.ValidImages.{valid-laid}
@@ -20,10 +18,10 @@ use Rattle.association.specs.Search.{hasSpi, matches}
 use Rattle.association.specs.declared.search.Wanted.{Wanted}
 use Rattle.promises.specs.Images.{versionIn, shapeIn, countIn, spiAt, place, markPlace, ownerAt, keyIdAt, wholeBodyAt, partPlace, keyCountIn, keyAt}
 use Rattle.promises.specs.Images.{idOfKey, stateOfKey, octetsOfKey, keyFrom, keyOctetsAt}
-use Rattle.promises.specs.Versions.{shapeOf}
-use Rattle.promises.proofs.Fields.{stands, mark-place, body-is, key-id-at}
+use Rattle.promises.specs.Versions.{Shape, shapeOf}
+use Rattle.promises.proofs.Fields.{stands, mark-place, body-is}
 use Rattle.promises.proofs.Isolation.{same-mark}
-use Rattle.desks.proofs.Shared.{place-four, in-front, in-part, in-own, Framed, place-same, part-same-place, Same, same-framed}
+use Rattle.desks.proofs.Shared.{shape-four, in-front, in-part, in-own, Framed, place-same, part-same-place, Same, same-framed}
 
 module _ (d : ℕ) (s t : List ℕ) (four : versionIn s ≡ 4) (same : Same d s t) where
   pub frame : Framed s t
@@ -80,7 +78,8 @@ module _ (d : ℕ) (s t : List ℕ) (four : versionIn s ≡ 4) (same : Same d s 
     unfolding planFor
     raises-same here there n =
         let laid : laidOut t ≡ laidOut s = valid-laid t there ∙ sym (valid-laid s here) in
-        ap storesOf (rw (laid, frame .count, mark-at-same, mark-same) refl)
+        let plans : planFor t e n ≡ planFor s e n = rw (laid, frame .count, mark-at-same, mark-same) refl in
+        ap storesOf plans
 
   -- ---- the key part
 
@@ -114,8 +113,10 @@ module _ (d : ℕ) (s t : List ℕ) (four : versionIn s ≡ 4) (same : Same d s 
   from-same id j zero = refl
   from-same id j (suc n) = cc (id-same j, from-same id (j + 1) n)
 
+  has-part : (image : List ℕ) → versionIn image ≡ 4 → shapeIn image .keyPart ≡ true
+  has-part image is = ap (λ (h : Shape). h .keyPart) (shape-four image is)
+
   pub key-same : (e : ℕ) → ownerAt s e ≡ d → keyOctetsAt s e ≡ keyOctetsAt t e
-  unfolding shapeOf
   key-same e own =
       let ids : keyIdAt t e ≡ keyIdAt s e =
       ap (λ (p : ℕ). numberAt p 2 t) (place-same frame e 16)
@@ -123,8 +124,11 @@ module _ (d : ℕ) (s t : List ℕ) (four : versionIn s ≡ 4) (same : Same d s 
       (λ i h. same .octets (place s e 16 + i) (in-own s four d e own (place s e 16 + i) (omega arith) (omega arith)))
       in
       let later : versionIn t ≡ 4 = frame .version ∙ four in
-      rw (four, later)
-      (sym
-      (octets-same (keyFrom t (keyIdAt t e) 0 (keyCountIn t))
+      let named-s = keyFrom s (keyIdAt s e) 0 (keyCountIn s) in
+      let named-t = keyFrom t (keyIdAt t e) 0 (keyCountIn t) in
+      ap (λ (b : Bool). cond b (octetsOfKey s named-s) (part (place s e 16) 32 s)) (has-part s four)
+      ∙ sym
+      (octets-same named-t
       ∙ ap (octetsOfKey s)
-      (from-same (keyIdAt t e) 0 (keyCountIn t) ∙ ap₂ (λ (id n : ℕ). keyFrom s id 0 n) ids keys-same)))
+      (from-same (keyIdAt t e) 0 (keyCountIn t) ∙ ap₂ (λ (id n : ℕ). keyFrom s id 0 n) ids keys-same))
+      ∙ sym (ap (λ (b : Bool). cond b (octetsOfKey t named-t) (part (place t e 16) 32 t)) (has-part t later))
