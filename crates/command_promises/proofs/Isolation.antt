@@ -160,9 +160,6 @@ module _ (s t : List ℕ) (desk : ℕ) (c : List ℕ) (same : SameKeys s t desk 
   unfolding keyInState
   in-same state id = by-known (hasKey s id) refl
     where
-      at : ℕ
-      at = keyWith s id
-
       by-known : (b : Bool) → hasKey s id ≡ b
           → (hasKey s id && eqb (keyStateAt s (partAt s) (keyWith s id)) state) ≡ (hasKey t id && eqb (keyStateAt t (partAt t) (keyWith t id)) state)
       by-known true e =
