@@ -27,7 +27,7 @@ sending spi = call (send (bare 1) spi frameC room)
 
 -- the key serves, so that its deactivation is refused, and both send on
 abbrev steps : List Step
-steps = sending 9 ∷ sending 10 ∷ command (forKey 0x03 5) space ∷ sending 9 ∷ call (frames.load []) ∷ sending 10 ∷ sending 9 ∷ []
+steps = sending 9 ∷ sending 10 ∷ command 0 (forKey 0x03 5) space ∷ sending 9 ∷ call (frames.load []) ∷ sending 10 ∷ sending 9 ∷ []
 
 pub run-shares :
     (shownOf 0 shared [] steps ≡ saw restart ∷ saw (sent 64) ∷ saw (sent 65) ∷ saw restart ∷ saw (sent 128) ∷ [])
