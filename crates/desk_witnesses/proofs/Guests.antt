@@ -23,7 +23,7 @@ use Rattle.promises.specs.Cases.{frameC}
 use Rattle.promises.specs.Images.{countIn, partPlace, ownerAt, lastAt}
 use Rattle.promises.specs.KeyedCases.{keyedBody, keyOf}
 use Rattle.promises.specs.Runs as frames
-use Rattle.promises.specs.Runs.{State, load, send, check, sendCut}
+use Rattle.promises.specs.Runs.{State, load, send, check, sendCut, checkCut}
 use Rattle.promises.proofs.Computing.{everything}
 use Rattle.promises.proofs.Valids.{rules-kept, agreement}
 use Rattle.command_promises.specs.Cases.{spoken, start, stop, setNumber, forKey, space}
@@ -173,3 +173,40 @@ key-parts =
 
 pub guests-alike : AnsweredTo 2 one other pairs
 guests-alike = desks 2 (omega arith, omega arith) one other pairs starts allowed key-parts
+
+-- ---- and they differ for desk 1
+
+-- the numbers of the answers of a run's whole calls
+unfoldable answer : State → Step → List ℕ
+answer x (call (load any)) = []
+answer x (call (send said spi frame output)) = secured (x .image) (x .numbers) said spi frame output .answer ∷ []
+answer x (call (check said frame output)) = checked (x .image) (x .numbers) said frame output .answer ∷ []
+answer x (call (sendCut said spi frame output j any)) = []
+answer x (call (checkCut said frame output j any)) = []
+answer x (command desk c output) = commanded (x .image) (x .numbers) desk c output .answer ∷ []
+answer x (commandCut desk c output j any) = []
+
+unfoldable told : State → List Step → List ℕ
+told x [] = []
+told x (v ∷ vs) = answer x v ++ told (after x v) vs
+
+-- the steps of either run
+unfoldable stepsHere : List Pair → List Step
+stepsHere [] = []
+stepsHere (same v ∷ ps) = v ∷ stepsHere ps
+stepsHere (apart vs ws ∷ ps) = vs ++ stepsHere ps
+stepsHere (apartCut v w ∷ ps) = v ∷ stepsHere ps
+
+unfoldable stepsThere : List Pair → List Step
+stepsThere [] = []
+stepsThere (same v ∷ ps) = v ∷ stepsThere ps
+stepsThere (apart vs ws ∷ ps) = ws ++ stepsThere ps
+stepsThere (apartCut v w ∷ ps) = w ∷ stepsThere ps
+
+-- desk 1 sends and stops; in the other run its sending is answered by 4, and later it starts and sends. Desk 2: 0, 5, 0, and behind the key
+-- office's 0 again 0, and 4 as its own association is stopped
+pub hosts-differ :
+    (told one (stepsHere pairs) ≡ 0 ∷ 0 ∷ 0 ∷ 5 ∷ 0 ∷ 0 ∷ 0 ∷ 4 ∷ [])
+    × (told other (stepsThere pairs) ≡ 4 ∷ 0 ∷ 5 ∷ 0 ∷ 0 ∷ 0 ∷ 0 ∷ 0 ∷ 4 ∷ [])
+unfolding everything imageOf withSpi channelsRight unserved withTag called entryNamed commandReply commanded commandedCut checked comparison frames.after after answer told stepsHere stepsThere
+hosts-differ = (refl, refl)
