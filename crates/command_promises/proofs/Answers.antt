@@ -30,7 +30,8 @@ use Rattle.procedures.specs.declared.procedure.Called.the-variants as calls
 use Rattle.procedures.specs.declared.procedure.Procedure as code
 use Rattle.procedures.specs.declared.procedure.Procedure.the-variants as procedure
 use Rattle.procedures.proofs.Calling.{called-so, called-parts, called-measured, called-sized, called-long}
-use Rattle.commands.specs.Commanding.{wrongDesk, callsNone, entryNamed, isNothing, testsAt, commandReply, commanded}
+use Rattle.addressing.specs.Addressing.{wrongDesk, callsNone, entryNamed, isNothing}
+use Rattle.commands.specs.Commanding.{testsAt, commandReply, commanded}
 use Rattle.commands.proofs.Done.{spi-found, spi-missing}
 use Rattle.promises.specs.Answers.{Rules, rule, noMore}
 use Rattle.promises.specs.Images.{stateAt, lastAt, BodyRules, ImageRules}

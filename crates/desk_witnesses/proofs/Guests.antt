@@ -18,7 +18,8 @@ use Rattle.named_keys.specs.NamedKeys.{unserved}
 use Rattle.procedures.specs.Procedures.{withTag, called}
 use Rattle.link.specs.Calls.{secured, checked, comparison}
 use Rattle.judging.specs.Said.{Said}
-use Rattle.commands.specs.Commanding.{entryNamed, commandReply, commanded, commandedCut}
+use Rattle.addressing.specs.Addressing.{entryNamed}
+use Rattle.commands.specs.Commanding.{commandReply, commanded, commandedCut}
 use Rattle.promises.specs.Cases.{frameC}
 use Rattle.promises.specs.Images.{countIn, partPlace, ownerAt, lastAt}
 use Rattle.promises.specs.KeyedCases.{keyedBody, keyOf}

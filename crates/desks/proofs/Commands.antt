@@ -30,7 +30,8 @@ use Rattle.procedures.specs.declared.procedure.Procedure as code
 use Rattle.procedures.specs.declared.procedure.Procedure.the-variants as procedure
 use Rattle.procedures.proofs.Calling.{called-parts}
 use Rattle.command_form.specs.Form.{tagOf}
-use Rattle.commands.specs.Commanding.{wrongDesk, commandReply, commanded}
+use Rattle.addressing.specs.Addressing.{wrongDesk}
+use Rattle.commands.specs.Commanding.{commandReply, commanded}
 use Rattle.commands.specs.Steps.{replyUnder}
 use Rattle.commands.proofs.Doing.{storesOf, does}
 use Rattle.commands.proofs.Done as deciding
