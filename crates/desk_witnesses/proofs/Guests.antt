@@ -4,12 +4,12 @@
 -- Assumes nothing.
 use Prim.Native.Nat.{ℕ, zero, suc, _+_, _-_, _≤_, _<_}
 use mathlib.Core.Path.{_≡_, refl, sym, ap, _∙_}
-use mathlib.Core.Logic.{_≢_, _⊎_, inl, inr}
+use mathlib.Core.Logic.{_⊎_, inl, inr}
 use mathlib.Core.Bool.{false}
 use mathlib.Core.List.{List, [], _∷_, _++_}
 use native.Mathlib.Decide.{decLt}
 use native.Mathlib.Omega.{arith}
-use lib.ListN.{length, take, drop, replicate}
+use lib.ListN.{take, drop, replicate}
 use lib.Seq.{getD-take, getD-drop}
 use Rattle.octets.specs.Lists.{octet}
 use Rattle.association.specs.Search.{withSpi}
@@ -21,7 +21,7 @@ use Rattle.judging.specs.Said.{Said}
 use Rattle.addressing.specs.Addressing.{entryNamed}
 use Rattle.commands.specs.Commanding.{commandReply, commanded, commandedCut}
 use Rattle.promises.specs.Cases.{frameC}
-use Rattle.promises.specs.Images.{countIn, partPlace, ownerAt, lastAt}
+use Rattle.promises.specs.Images.{partPlace, ownerAt, lastAt}
 use Rattle.promises.specs.KeyedCases.{keyedBody, keyOf}
 use Rattle.promises.specs.Runs as frames
 use Rattle.promises.specs.Runs.{State, load, send, check, sendCut, checkCut}
@@ -32,7 +32,7 @@ use Rattle.command_promises.specs.Runs.{Step, call, command, commandCut, after,
 use Rattle.desks.specs.Desks.{By, isLoad, isCut, Other, Pair, same, apart, apartCut, here, there, AllOther, Allowed, AllAllowed, Sound, Common}
 use Rattle.desks.specs.Desks.{Start, SameKeyPart, KeyPartSame, AnsweredTo}
 use Rattle.desks.proofs.Desks.{desks}
-use Rattle.witness_frames.proofs.Computed.{areOctets, octets-of}
+use Rattle.witness_frames.proofs.Computed.{octets-of}
 
 -- ---- the two images: SPI 9 is desk 1's, SPIs 10 and 11 are desk 2's; bodies at 18, 41 and 64, the key part at 87
 
