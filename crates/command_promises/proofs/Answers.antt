@@ -1,6 +1,6 @@
 -- A command answers the first rule that is broken: each test of the definitions is a rule of the promise, and they come in the same order.
 -- Assumes nothing.
-use Prim.Native.Nat.{ℕ, _+_, _-_, _≤_}
+use Prim.Native.Nat.{ℕ, _+_, _≤_}
 use mathlib.Core.Path.{_≡_, refl, sym, ap, subst, _∙_}
 use mathlib.Core.Logic.{_⊎_, inl, inr}
 use mathlib.Core.Bool.{Bool, true, false, cond, not, _&&_}
@@ -30,7 +30,8 @@ use Rattle.procedures.specs.declared.procedure.Called.the-variants as calls
 use Rattle.procedures.specs.declared.procedure.Procedure as code
 use Rattle.procedures.specs.declared.procedure.Procedure.the-variants as procedure
 use Rattle.procedures.proofs.Calling.{called-so, called-parts, called-measured, called-sized, called-long}
-use Rattle.commands.specs.Commanding.{wrongDesk, callsNone, entryNamed, isNothing, testsAt, commandReply, commanded}
+use Rattle.addressing.specs.Addressing.{wrongDesk, callsNone, entryNamed, isNothing}
+use Rattle.commands.specs.Commanding.{testsAt, commandReply, commanded}
 use Rattle.commands.proofs.Done.{spi-found, spi-missing}
 use Rattle.promises.specs.Answers.{Rules, rule, noMore}
 use Rattle.promises.specs.Images.{stateAt, lastAt, BodyRules, ImageRules}

@@ -38,9 +38,11 @@ use Rattle.procedures.specs.declared.procedure.Called.the-variants as calls
 use Rattle.procedures.specs.declared.procedure.Procedure as code
 use Rattle.procedures.specs.declared.procedure.Procedure.the-variants as procedure
 use Rattle.procedures.proofs.Calling.{called-parts, called-tag}
-use Rattle.commands.specs.Commanding.{wrongDesk, entryNamed, addressTests, commandReply, commanded}
+use Rattle.addressing.specs.Addressing.{wrongDesk, entryNamed, addressTests}
+use Rattle.commands.specs.Commanding.{commandReply, commanded}
 use Rattle.commands.specs.Steps.{replyUnder}
-use Rattle.commands.proofs.Addressing.{by-19, by-13, by-14, addresses, command-under}
+use Rattle.addressing.proofs.Passing.{by-19, by-13, by-14, addresses}
+use Rattle.commands.proofs.Addressing.{command-under}
 use Rattle.commands.proofs.Done.{spi-found, spi-at}
 use Rattle.promises.specs.Images.{versionIn, wholeBodyAt, lastAt, keyCountIn, keyFrom}
 use Rattle.promises.specs.Isolation.{Standing, SameAnswer}

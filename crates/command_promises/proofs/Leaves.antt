@@ -30,7 +30,8 @@ use Rattle.procedures.specs.declared.procedure.Called.the-variants as calls
 use Rattle.procedures.specs.declared.procedure.Procedure as code
 use Rattle.procedures.specs.declared.procedure.Procedure.the-variants as procedure
 use Rattle.procedures.proofs.Calling.{called-parts}
-use Rattle.commands.specs.Commanding.{entryNamed, replyAt, commandReply, commanded, commandedCut}
+use Rattle.addressing.specs.Addressing.{entryNamed}
+use Rattle.commands.specs.Commanding.{replyAt, commandReply, commanded, commandedCut}
 use Rattle.commands.proofs.Accepting.{Accepts}
 use Rattle.commands.proofs.Doing.{Ready, storesOf, numberFor, does, accepted-number, raises-count}
 use Rattle.commands.proofs.Done.{Done, done, Where, at, nowhere, turning, spi-at}

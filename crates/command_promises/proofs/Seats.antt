@@ -12,7 +12,7 @@ use Rattle.octets.specs.Lists.{octet}
 use Rattle.judging.specs.Said.{noDesk}
 use Rattle.command_form.specs.Form.{tagOf}
 use Rattle.procedures.specs.Procedures.{keyCommand}
-use Rattle.commands.specs.Commanding.{wrongDesk}
+use Rattle.addressing.specs.Addressing.{wrongDesk}
 use Rattle.command_promises.specs.Answers.{rowIn, KeyCommand, DeskRules}
 use Rattle.command_promises.specs.Rows.{rowOf}
 

@@ -2,7 +2,7 @@
 -- sees.
 -- Assumes nothing.
 use Prim.Native.Nat.{ℕ, _<_}
-use mathlib.Core.Path.{_≡_, sym, ap, _∙_}
+use mathlib.Core.Path.{_≡_, sym, _∙_}
 use mathlib.Core.Bool.{true}
 use mathlib.Core.List.{List}
 use lib.ListN.{length}
@@ -10,7 +10,7 @@ use Rattle.octets.specs.Lists.{Octets}
 use Rattle.image.specs.Image.{validImage}
 use Rattle.numbers.specs.Numbers.{agrees}
 use Rattle.promises.specs.Images.{versionIn, countIn, ownerAt, lastAt}
-use Rattle.promises.specs.Isolation.{Standing, SameAnswer}
+use Rattle.promises.specs.Isolation.{Standing}
 use Rattle.promises.proofs.Valids.{rules-kept, agreement}
 use Rattle.desks.proofs.Calls.{Twin}
 use Rattle.desks.proofs.Shared.{Framed, Same, same-framed, same-back}

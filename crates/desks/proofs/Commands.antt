@@ -1,21 +1,20 @@
 -- A command in two runs: for an entry that the desk owns it is decided alike, and makes the same stores; and to the desk itself it answers
 -- the same.
 -- Assumes nothing.
-use Prim.Native.Nat.{ℕ, _+_, _≤_, _<_}
+use Prim.Native.Nat.{ℕ, _≤_, _<_}
 use mathlib.Core.Path.{_≡_, refl, sym, ap, _∙_}
 use mathlib.Core.Logic.{_⊎_, inl, inr}
 use mathlib.Core.Bool.{Bool, true, false, true≢false}
-use mathlib.Core.List.{List, [], _∷_}
+use mathlib.Core.List.{List}
 use native.Mathlib.Omega.{arith}
-use lib.ListN.{length, take}
+use lib.ListN.{length}
 use lib.Seq.{take-nil, getD-set-other}
 use Rattle.octets.specs.Lists.{octet, Octets}
 use Rattle.octets.specs.Numbers.{numberAt}
-use Rattle.octets.proofs.Outside.{Outside}
 use Rattle.marks.specs.Stores.{stored}
 use Rattle.marks.specs.declared.plans.Store.{Store}
 use Rattle.keys.specs.Keys.{keyStatePlace}
-use Rattle.image.specs.Image.{versionOf, bodyAt, markAt, partAt, keyWith, validImage}
+use Rattle.image.specs.Image.{versionOf, bodyAt, partAt, keyWith, validImage}
 use Rattle.numbers.specs.Numbers.{agrees}
 use Rattle.numbers.specs.Stores.{storesFor}
 use Rattle.association.specs.Search.{hasSpi, withSpi}
@@ -30,19 +29,19 @@ use Rattle.procedures.specs.declared.procedure.Procedure as code
 use Rattle.procedures.specs.declared.procedure.Procedure.the-variants as procedure
 use Rattle.procedures.proofs.Calling.{called-parts}
 use Rattle.command_form.specs.Form.{tagOf}
-use Rattle.commands.specs.Commanding.{wrongDesk, commandReply, commanded}
+use Rattle.commands.specs.Commanding.{commandReply, commanded}
 use Rattle.commands.specs.Steps.{replyUnder}
-use Rattle.commands.proofs.Doing.{storesOf, does}
+use Rattle.commands.proofs.Doing.{does}
 use Rattle.commands.proofs.Done as deciding
 use Rattle.commands.proofs.Done.{Where, nowhere, turning, spi-found, spi-missing}
 use Rattle.commands.proofs.Managed.{Managed, first-of-one}
-use Rattle.promises.specs.Images.{versionIn, shapeIn, countIn, spiAt, place, markPlace, partPlace, ownerAt, lastAt, Sees}
-use Rattle.promises.specs.Isolation.{Standing, SameAnswer}
+use Rattle.promises.specs.Images.{versionIn, shapeIn, countIn, place, ownerAt, lastAt, Sees}
+use Rattle.promises.specs.Isolation.{SameAnswer}
 use Rattle.promises.specs.Versions.{Shape}
-use Rattle.promises.proofs.Fields.{shapes, stands, mark-place, part-place, key-place}
+use Rattle.promises.proofs.Fields.{shapes, stands, part-place}
 use Rattle.promises.proofs.Stored.{outside}
 use Rattle.promises.proofs.Valids.{named-kept, named-tested}
-use Rattle.command_promises.specs.Answers.{rowIn, KeyCommand}
+use Rattle.command_promises.specs.Answers.{rowIn}
 use Rattle.command_promises.specs.Isolation.{SameNamed, both, neither, none, SameKeys}
 use Rattle.command_promises.specs.Rows.{Names}
 use Rattle.command_promises.proofs.Isolation.{command-isolation, reply-at, named-at, at-both}

@@ -6,7 +6,6 @@ use mathlib.Core.Path.{_≡_, refl, sym, ap, _∙_}
 use mathlib.Core.Logic.{_⊎_, inl, inr}
 use mathlib.Core.Bool.{Bool, true, false, _||_, or-true, true≢false}
 use mathlib.Core.List.{List, [], _∷_}
-use native.Mathlib.Omega.{arith}
 use lib.ListN.{length}
 use Rattle.octets.specs.Lists.{octet, Octets}
 use Rattle.image.specs.Image.{validImage, markIn}
@@ -24,12 +23,12 @@ use Rattle.promises.proofs.Valids.{rules-valid, agreement, agreement-tested}
 use Rattle.command_promises.specs.Runs.{Step, call, command, commandCut, after, ran}
 use Rattle.command_promises.proofs.Keeps.{Spoken}
 use Rattle.desks.specs.Desks.{By, isLoad, isCut, Own, OwnOrOffice, Other, Pair, same, apart, apartCut, here, there}
-use Rattle.desks.specs.Desks.{AllOther, Allowed, AllAllowed, Start, SameKeyPart, KeyPartSame, Answered, AnsweredTo, Desks}
+use Rattle.desks.specs.Desks.{AllOther, Allowed, AllAllowed, SameKeyPart, KeyPartSame, Answered, AnsweredTo, Desks}
 use Rattle.desks.proofs.Both.{Both, frame, later, back, twin-back}
-use Rattle.desks.proofs.Calls.{Acts, Together, Twin, together}
+use Rattle.desks.proofs.Calls.{Together, together}
 use Rattle.desks.proofs.Commands.{Calling, command-acts, command-twin, command-answered}
 use Rattle.desks.proofs.Frames.{send-acts, check-acts, send-twin, check-twin, send-answered, check-answered}
-use Rattle.desks.proofs.Going.{Fine, Next, anew, by-spoken, next, other-cut, others-pass}
+use Rattle.desks.proofs.Going.{Fine, anew, by-spoken, next, other-cut, others-pass}
 use Rattle.desks.proofs.Reading.{mark-same}
 use Rattle.desks.proofs.Shared.{Framed, Same, framed, same-framed, same-then}
 

@@ -13,8 +13,7 @@ use Rattle.marks.specs.Stores.{stored}
 use Rattle.marks.specs.declared.plans.Store.{Store}
 use Rattle.image.specs.Image.{validImage}
 use Rattle.numbers.specs.Numbers.{agrees}
-use Rattle.numbers.specs.Stores.{storesFor, afterStores}
-use Rattle.numbers.proofs.AfterStores.{Raised}
+use Rattle.numbers.specs.Stores.{afterStores}
 use Rattle.association.specs.Association.{heldIn, theOne, indexOf}
 use Rattle.association.specs.Search.{matches, entryFor}
 use Rattle.association.specs.declared.held.Held.{Held}

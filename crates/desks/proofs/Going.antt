@@ -1,12 +1,11 @@
 -- One run goes on: the image stays valid and of its version, there are 32 numbers, and they agree with the marks as they did, or once more
 -- after a load. A call of another desk leaves what the desk sees as it was.
 -- Assumes nothing.
-use Prim.Native.Nat.{ℕ, _*_, _+_, _≤_, _<_}
+use Prim.Native.Nat.{ℕ, _<_}
 use mathlib.Core.Path.{_≡_, refl, sym, ap, _∙_}
-use mathlib.Core.Logic.{_≢_, _⊎_, inl, inr}
+use mathlib.Core.Logic.{inl, inr}
 use mathlib.Core.Bool.{Bool, true, false, _||_, or-true, true≢false}
 use mathlib.Core.List.{List, [], _∷_}
-use native.Mathlib.Omega.{arith}
 use lib.ListN.{length}
 use Rattle.octets.specs.Lists.{Octets}
 use Rattle.image.specs.Image.{validImage}

@@ -11,12 +11,12 @@ use Rattle.octets.specs.Numbers.{numberAt}
 use Rattle.octets.proofs.Numbers.{numberAt-same}
 use Rattle.octets.proofs.Parts.{part-same}
 use Rattle.marks.specs.Stores.{storesOf}
-use Rattle.image.specs.Image.{versionOf, countOf, bodyAt, bodyOf, markAt, markIn, laidOut, validImage}
+use Rattle.image.specs.Image.{bodyAt, bodyOf, markAt, markIn, laidOut, validImage}
 use Rattle.image.proofs.ValidImages.{valid-laid}
 use Rattle.numbers.specs.Stores.{planFor, storesFor}
 use Rattle.association.specs.Search.{hasSpi, matches}
 use Rattle.association.specs.declared.search.Wanted.{Wanted}
-use Rattle.promises.specs.Images.{versionIn, shapeIn, countIn, spiAt, place, markPlace, ownerAt, keyIdAt, wholeBodyAt, partPlace, keyCountIn, keyAt}
+use Rattle.promises.specs.Images.{versionIn, shapeIn, countIn, spiAt, place, ownerAt, keyIdAt, wholeBodyAt, partPlace, keyCountIn, keyAt}
 use Rattle.promises.specs.Images.{idOfKey, stateOfKey, octetsOfKey, keyFrom, keyOctetsAt}
 use Rattle.promises.specs.Versions.{Shape, shapeOf}
 use Rattle.promises.proofs.Fields.{stands, mark-place, body-is}

@@ -5,7 +5,8 @@ use mathlib.Core.List.{[], _∷_}
 use Rattle.association.specs.Search.{withSpi}
 use Rattle.command_form.specs.Channels.{channelsRight}
 use Rattle.procedures.specs.Procedures.{withTag, called}
-use Rattle.commands.specs.Commanding.{entryNamed, commandReply, commanded, commandedCut}
+use Rattle.addressing.specs.Addressing.{entryNamed}
+use Rattle.commands.specs.Commanding.{commandReply, commanded, commandedCut}
 use Rattle.promises.specs.Cases.{frameC, room, imageB, bare}
 use Rattle.promises.specs.Runs as frames
 use Rattle.promises.specs.Runs.{send, restart, sent}

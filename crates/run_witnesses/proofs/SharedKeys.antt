@@ -8,7 +8,8 @@ use lib.ListN.{replicate}
 use Rattle.association.specs.Search.{withSpi}
 use Rattle.named_keys.specs.NamedKeys.{unserved}
 use Rattle.procedures.specs.Procedures.{withTag, called}
-use Rattle.commands.specs.Commanding.{entryNamed, commandReply, commanded, commandedCut}
+use Rattle.addressing.specs.Addressing.{entryNamed}
+use Rattle.commands.specs.Commanding.{commandReply, commanded, commandedCut}
 use Rattle.promises.specs.Cases.{frameC, room, bare}
 use Rattle.promises.specs.KeyedCases.{keyedBody, keyOf, sharedImage, ivOf}
 use Rattle.promises.specs.Runs as frames
