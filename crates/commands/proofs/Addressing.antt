@@ -18,14 +18,14 @@ use Rattle.procedures.specs.Procedures.{procedureIs, procedureOf, called}
 use Rattle.procedures.specs.declared.procedure.Called.the-variants as calls
 use Rattle.procedures.specs.declared.procedure.Procedure as code
 use Rattle.procedures.proofs.Calling.{called-long}
-use Rattle.commands.specs.Commanding.{callsNone, entryNamed, isNothing, addressTests, testsAt, replyAt, commandReply}
+use Rattle.commands.specs.Commanding.{wrongDesk, callsNone, entryNamed, isNothing, addressTests, testsAt, replyAt, commandReply}
 use Rattle.commands.specs.Steps.{Addresses, replyUnder}
 
 -- ---- one by one
 
-module _ (image last command : List ℕ) where
+module _ (image last : List ℕ) (desk : ℕ) (command : List ℕ) where
   abbrev front : ℕ
-  front = first (addressTests image last command)
+  front = first (addressTests image last desk command)
 
   pub by-1 : validImage image ≡ false → front ≡ 1
   unfolding first
@@ -37,46 +37,53 @@ module _ (image last command : List ℕ) where
     by-2 a = rw (v, a)
 
     module _ (a : agrees image last ≡ true) where
-      pub by-13 : called command ≡ calls.Nothing → front ≡ 13
+      pub by-19 : wrongDesk desk command ≡ true → front ≡ 19
       unfolding first
-      by-13 n = rw (v, a, n)
+      by-19 w = rw (v, a, w)
 
-      module _ (p : code.Procedure) (c : called command ≡ calls.Procedure p) where
-        pub by-14 : entryNamed (procedureIs p) image (valueOf command) ≡ found.Nothing → front ≡ 14
+      module _ (s : wrongDesk desk command ≡ false) where
+        pub by-13 : called command ≡ calls.Nothing → front ≡ 13
         unfolding first
-        by-14 n = rw (v, a, c, n)
+        by-13 n = rw (v, a, s, n)
 
-        pub addresses : (e : ℕ) → entryNamed (procedureIs p) image (valueOf command) ≡ found.At e → Addresses image last command p e
-        unfolding first
-        addresses e f =
-            record {
-              answer = rw (v, a, c, f);
-              procedure = rw c;
-              entry = f;
-              long = called-long command p c;
-            }
+        module _ (p : code.Procedure) (c : called command ≡ calls.Procedure p) where
+          pub by-14 : entryNamed (procedureIs p) image desk (valueOf command) ≡ found.Nothing → front ≡ 14
+          unfolding first
+          by-14 n = rw (v, a, s, c, n)
+
+          pub addresses : (e : ℕ) → entryNamed (procedureIs p) image desk (valueOf command) ≡ found.At e → Addresses image last desk command p e
+          unfolding first
+          addresses e f =
+              record {
+                answer = rw (v, a, s, c, f);
+                procedure = rw c;
+                entry = f;
+                long = called-long command p c;
+              }
 
   -- ---- past them
 
-  pub past-address : (us : List Test) → front ≡ 0 → first (addressTests image last command ++ us) ≡ first us
+  pub past-address : (us : List Test) → front ≡ 0 → first (addressTests image last desk command ++ us) ≡ first us
   past-address us z =
       let t1 = passed 1 (not (validImage image)) _ (omega arith) z in
       let t2 = passed 2 (not (agrees image last)) _ (omega arith) (t1 .1) in
-      let t13 = passed 13 (callsNone (called command)) _ (omega arith) (t2 .1) in
-      let t14 = passed 14 (isNothing (entryNamed (procedureOf command) image (valueOf command))) _ (omega arith) (t13 .1) in
+      let t19 = passed 19 (wrongDesk desk command) _ (omega arith) (t2 .1) in
+      let t13 = passed 13 (callsNone (called command)) _ (omega arith) (t19 .1) in
+      let t14 = passed 14 (isNothing (entryNamed (procedureOf command) image desk (valueOf command))) _ (omega arith) (t13 .1) in
       passes 1 (not (validImage image)) _ (t1 .0)
       ∙ passes 2 (not (agrees image last)) _ (t2 .0)
+      ∙ passes 19 (wrongDesk desk command) _ (t19 .0)
       ∙ passes 13 (callsNone (called command)) _ (t13 .0)
-      ∙ passes 14 (isNothing (entryNamed (procedureOf command) image (valueOf command))) _ (t14 .0)
+      ∙ passes 14 (isNothing (entryNamed (procedureOf command) image desk (valueOf command))) _ (t14 .0)
 
-  pub command-refused : (room : ℕ) (a : Answer) → Refuses a front → Refuses a (commandReply image last command room .answer)
+  pub command-refused : (room : ℕ) (a : Answer) → Refuses a front → Refuses a (commandReply image last desk command room .answer)
   unfolding commandReply
   command-refused room a r =
-      let same = stops (addressTests image last command) _ (r .some) in
+      let same = stops (addressTests image last desk command) _ (r .some) in
       record { answer = r .answer ∙ ap refusal (sym same); some = rw same (r .some) }
 
-  pub command-under : (room : ℕ) (p : code.Procedure) (e : ℕ) → Addresses image last command p e
-      → replyUnder p image last e (valueOf command) room ≡ commandReply image last command room
+  pub command-under : (room : ℕ) (p : code.Procedure) (e : ℕ) → Addresses image last desk command p e
+      → replyUnder p image last e (valueOf command) room ≡ commandReply image last desk command room
   unfolding commandReply
   command-under room p e d =
       let k = procedureIs p in

@@ -17,15 +17,15 @@ use Rattle.commands.specs.declared.address.Address.{Address}
 use Rattle.commands.specs.declared.address.Address.the-variants as address
 
 -- past the tests that come first: the procedure that the command calls, and the entry that it names
-pub record Addresses (image last command : List ℕ) (p : code.Procedure) (e : ℕ) : Type 0 where
-  pub answer : first (addressTests image last command) ≡ 0
+pub record Addresses (image last : List ℕ) (desk : ℕ) (command : List ℕ) (p : code.Procedure) (e : ℕ) : Type 0 where
+  pub answer : first (addressTests image last desk command) ≡ 0
   pub procedure : procedureOf command ≡ procedureIs p
-  pub entry : entryNamed (procedureIs p) image (valueOf command) ≡ found.At e
+  pub entry : entryNamed (procedureIs p) image desk (valueOf command) ≡ found.At e
   pub long : frontLength ≤ length command
 
-abbrev pub Addressed : Address → List ℕ → List ℕ → List ℕ → Type 0
-Addressed (address.To p e) image last command = Addresses image last command p e
-Addressed (address.Refused a) image last command = Refuses a (first (addressTests image last command))
+abbrev pub Addressed : Address → List ℕ → List ℕ → ℕ → List ℕ → Type 0
+Addressed (address.To p e) image last desk command = Addresses image last desk command p e
+Addressed (address.Refused a) image last desk command = Refuses a (first (addressTests image last desk command))
 
 -- the reply under entry e, past those tests
 abbrev pub replyUnder : code.Procedure → List ℕ → List ℕ → ℕ → List ℕ → ℕ → Reply

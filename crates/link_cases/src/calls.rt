@@ -5,6 +5,7 @@ use crate::fields::four;
 use crate::fields::octet;
 use crate::fields::two;
 use commands::command;
+use judging::Said;
 use lines::field;
 use lines::print_number;
 use lines::read_octets;
@@ -12,6 +13,8 @@ use link::Outcome;
 use numbers::Numbers;
 use numbers::raise;
 use octets::octet_at;
+
+const OFFICE: u8 = 0;
 
 fn printed(outcome: Outcome, output: &[u8]) -> Numbers {
     let answer = outcome.answer;
@@ -32,7 +35,7 @@ pub(crate) fn run_raise(line: &[u8], image: &mut [u8], numbers: Numbers) -> Numb
 }
 
 // `secure KIND FIELD SPI ROOM FRAME`; `check KIND FIELD ROOM FRAME`, where the SPI stands in the frame; or `manage ROOM COMMAND`. FIELD is 00
-// for no check field.
+// for no check field. The desk is the key office's, which sees every association.
 fn outcome(
     line: &[u8],
     image: &mut [u8],
@@ -41,14 +44,17 @@ fn outcome(
     output: &mut [u8],
 ) -> Outcome {
     if octet_at(line, 0) == b'm' {
-        return command(image, numbers, frame, output);
+        return command(image, numbers, OFFICE, frame, output);
     }
-    let kind = octet(line, 1);
-    let field = octet(line, 2) != 0;
+    let said = Said {
+        desk: OFFICE,
+        kind: octet(line, 1),
+        field: octet(line, 2) != 0,
+    };
     if octet_at(line, 0) == b's' {
-        return securing::secure(image, numbers, kind, field, two(line, 3), frame, output);
+        return securing::secure(image, numbers, said, two(line, 3), frame, output);
     }
-    checking::check(image, numbers, kind, field, frame, output)
+    checking::check(image, numbers, said, frame, output)
 }
 
 // Such a line, by the numbers of its fields ROOM, which is the length of the output, at most 4096, and FRAME, or COMMAND.
