@@ -64,7 +64,8 @@ static void lay_out(const struct setting *setting, struct input *input)
     entry->map = setting->kind == 2 ? 9 : 0;
     entry->window = setting->window;
     entry->mark = setting->last / 64;
-    table.key_count = setting->version == 3 ? 1 : 0; /* with ID 0, which the association names */
+    table.key_count = has_key_part(setting->version) ? 1 : 0; /* with ID 0, which the association names */
+    entry->owner = 1;
     table.keys[0].state = ACTIVE;
     input->which = CALL_COMMAND;
     input->image_length = write_image(&table, input->image);
@@ -318,7 +319,8 @@ static void try_longest_start(void)
     for (unsigned wrong = 0; wrong < 2; wrong++) {
         lay_out(&setting, &input);
         command[length - 1] ^= (uint8_t)(1 - wrong); /* the last name is wrong the first time */
-        uint64_t result = xistalvo_command(input.image, input.image_length, input.numbers, NUMBER_COUNT, command, length, input.output, 0);
+        uint64_t result = xistalvo_command(input.image, input.image_length, input.numbers, NUMBER_COUNT, XISTALVO_KEY_OFFICE, command, length,
+                                           input.output, 0);
         expect(XISTALVO_ANSWER(result) == (wrong == 0 ? 16 : 0), "the longest start is answered otherwise");
         command[length - 1] ^= (uint8_t)(1 - wrong);
     }

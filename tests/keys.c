@@ -150,7 +150,7 @@ static void try_every_count(void)
             table.count = counts[c];
             table.key_count = keys > MOST_KEYS ? MOST_KEYS : keys;
             for (size_t i = 0; i < table.count; i++) {
-                struct association entry = {(unsigned)i + 1, 2, 1, 1, keys == 0 ? 1 : 2, 27, 5, false, 0, 100, {0}, true, 0, {0}, 7};
+                struct association entry = {(unsigned)i + 1, 2, 1, 1, keys == 0 ? 1 : 2, 27, 5, false, 0, 100, {0}, true, 0, {0}, 7, 1};
                 entry.key_id = 1000 * (unsigned)(keys / 2);
                 table.entries[i] = entry;
             }
@@ -189,7 +189,7 @@ static void lay_out_one(struct input *input, enum which_call which, unsigned ver
     memset(input, 0, sizeof *input);
     table.version = version;
     table.count = 1;
-    struct association entry = {spi, service, 1, direction, 2, 27, 5, false, 0, 100, {255, 255, 255, 255, 255, 0}, version == 3, 7, {0}, 0};
+    struct association entry = {spi, service, 1, direction, 2, 27, 5, false, 0, 100, {255, 255, 255, 255, 255, 0}, has_key_part(version), 7, {0}, 0, 1};
     memset(entry.key, 0x77, KEY_LENGTH);
     table.entries[0] = entry;
     table.key_count = 2;
@@ -297,8 +297,8 @@ static void lay_out_pair(struct input *input, unsigned state, unsigned window, u
     memset(input, 0, sizeof *input);
     table.version = 3;
     table.count = 2;
-    struct association first = {9, 2, 1, 1, state, 27, 5, false, 0, window, {0}, true, 0x0201, {0}, 3};
-    struct association second = {20, 1, 1, 2, other_state, 27, 6, false, 0, 100, {0}, true, other_key, {0}, 0};
+    struct association first = {9, 2, 1, 1, state, 27, 5, false, 0, window, {0}, true, 0x0201, {0}, 3, 1};
+    struct association second = {20, 1, 1, 2, other_state, 27, 6, false, 0, 100, {0}, true, other_key, {0}, 0, 1};
     table.entries[0] = first;
     table.entries[1] = second;
     const struct key keys[] = {

@@ -27,26 +27,26 @@ static void call_load(void) { result = xistalvo_load(images[0], image_length, nu
 
 static void call_secure(void)
 {
-    result = xistalvo_secure(images[0], image_length, numbers[0], NUMBER_COUNT, kind, check_field, MOST_ENTRIES, clear, clear_length,
-                             secured, sizeof secured);
+    result = xistalvo_secure(images[0], image_length, numbers[0], NUMBER_COUNT, XISTALVO_KEY_OFFICE, kind, check_field, MOST_ENTRIES, clear,
+                             clear_length, secured, sizeof secured);
 }
 
 static void call_check(void)
 {
-    result = xistalvo_check(images[1], image_length, numbers[1], NUMBER_COUNT, kind, check_field, secured, secured_length, opened,
-                            sizeof opened);
+    result = xistalvo_check(images[1], image_length, numbers[1], NUMBER_COUNT, XISTALVO_KEY_OFFICE, kind, check_field, secured, secured_length,
+                            opened, sizeof opened);
 }
 
 static void call_ground_secure(void)
 {
-    result = xistalvo_ground_secure(images[0], image_length, numbers[0], NUMBER_COUNT, kind, check_field, MOST_ENTRIES, clear, clear_length,
-                                    secured, sizeof secured);
+    result = xistalvo_ground_secure(images[0], image_length, numbers[0], NUMBER_COUNT, XISTALVO_KEY_OFFICE, kind, check_field, MOST_ENTRIES, clear,
+                                    clear_length, secured, sizeof secured);
 }
 
 static void call_ground_check(void)
 {
-    result = xistalvo_ground_check(images[1], image_length, numbers[1], NUMBER_COUNT, kind, check_field, secured, secured_length, opened,
-                                   sizeof opened);
+    result = xistalvo_ground_check(images[1], image_length, numbers[1], NUMBER_COUNT, XISTALVO_KEY_OFFICE, kind, check_field, secured, secured_length,
+                                   opened, sizeof opened);
 }
 
 static void call_raise(void)
@@ -59,14 +59,15 @@ static void call_command(void)
 {
     static uint8_t command[XISTALVO_SET_NUMBER_LENGTH];
     xistalvo_make_set_number(MOST_ENTRIES, numbers[0][MOST_ENTRIES - 1] + XISTALVO_LARGEST_STEP, command, sizeof command);
-    result = xistalvo_command(images[0], image_length, numbers[0], NUMBER_COUNT, command, sizeof command, opened, sizeof opened);
+    result = xistalvo_command(images[0], image_length, numbers[0], NUMBER_COUNT, XISTALVO_KEY_OFFICE, command, sizeof command, opened, sizeof opened);
 }
 
 static void call_command_cut(void)
 {
     static uint8_t command[XISTALVO_SET_NUMBER_LENGTH];
     xistalvo_make_set_number(MOST_ENTRIES, numbers[0][MOST_ENTRIES - 1] + XISTALVO_LARGEST_STEP, command, sizeof command);
-    uint32_t made = xistalvo_command_cut(images[0], image_length, numbers[0], NUMBER_COUNT, command, sizeof command, sizeof opened, 1);
+    uint32_t made = xistalvo_command_cut(images[0], image_length, numbers[0], NUMBER_COUNT, XISTALVO_KEY_OFFICE, command, sizeof command,
+                                         sizeof opened, 1);
     result = made == 1 ? 0 : UINT64_MAX;
 }
 
@@ -75,7 +76,7 @@ static void call_inventory(void)
 {
     static uint8_t command[XISTALVO_INVENTORY_LENGTH];
     xistalvo_make_inventory(0, 65535, command, sizeof command);
-    result = xistalvo_command(images[0], image_length, numbers[0], NUMBER_COUNT, command, sizeof command, opened, sizeof opened);
+    result = xistalvo_command(images[0], image_length, numbers[0], NUMBER_COUNT, XISTALVO_KEY_OFFICE, command, sizeof command, opened, sizeof opened);
 }
 
 static void (*current_call)(void);
@@ -121,8 +122,8 @@ static void make_ends(unsigned version, unsigned service)
         table = (struct table){.version = version, .count = MOST_ENTRIES, .key_count = MOST_KEYS};
         for (unsigned i = 0; i < MOST_ENTRIES; i++) {
             table.entries[i] = (struct association){.spi = i + 1, .service = service, .kind = kind, .direction = end + 1, .state = 2,
-                                                    .spacecraft = 27, .channel = version == 3 && kind == 3 ? 1 << 5 : 5, .window = 1024,
-                                                    .key_id = 2 * i + 1, .key = {(uint8_t)i}, .mark = end == 0 ? 15 : 0};
+                                                    .spacecraft = 27, .channel = version >= 2 && kind == 3 ? 1 << 5 : 5, .window = 1024,
+                                                    .key_id = 2 * i + 1, .key = {(uint8_t)i}, .mark = end == 0 ? 15 : 0, .owner = 1 + i % 2};
         }
         for (unsigned i = 0; i < MOST_KEYS; i++) {
             table.keys[i] = (struct key){.id = i, .state = ACTIVE, .octets = {(uint8_t)i}};
