@@ -232,6 +232,13 @@ static void try_every_form(unsigned version)
                 input.frame[4] = 9;
                 bool is_formed = length >= 3 && field == length - 3 && has_form(tag, field);
                 expect((run(&input).answer != 13) == is_formed, "13 is given for a right form, or not for a wrong one");
+                input.desk = (uint8_t)(1 + field % 2); /* a laboratory's: 19 for the first octet alone */
+                bool is_about_keys = length != 0 && (tag == TAG_ACTIVATION || tag == TAG_DEACTIVATION || tag == TAG_INVENTORY);
+                unsigned answer = run(&input).answer;
+                expect((answer == 19) == is_about_keys, "19 is not given for a key command of a laboratory, or for another");
+                expect(is_about_keys || (answer != 13) == is_formed, "13 is given otherwise to a laboratory than to the key office");
+                input.desk = (uint8_t)(3 + tag % 253);
+                expect(run(&input).answer == 19, "a desk that there is not is answered otherwise than by 19");
             }
         }
     }
@@ -451,6 +458,7 @@ int main(int argument_count, char **arguments)
     try_way_through();
     try_every_form(1);
     try_every_form(3);
+    try_every_form(4);
     try_every_step();
     for (unsigned window = 0; window <= 65535; window += window < 1100 || window >= 65500 ? 1 : 50) {
         try_window(window);

@@ -1063,7 +1063,7 @@ static void try_command(struct run *run, struct end *own)
     struct end copy = *own;
     struct end *end = random_percent(random, 75) ? &copy : own;
     struct target target = any_target(run, end, random_between(random, 1, 2));
-    unsigned tag = every_tag[random_below(random, TAG_COUNT)];
+    unsigned tag = random_percent(random, 12) ? TAG_START : every_tag[random_below(random, TAG_COUNT)];
     if (target.is_held) {
         suit_command(random, end, target.entry, tag, &target.association);
     }

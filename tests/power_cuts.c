@@ -195,13 +195,22 @@ static unsigned answer_to_desk(struct run *run, const struct association *associ
     return answer;
 }
 
+/* Most calls come from a desk that may make them, so that most of a run is spent on what is done. */
+static uint8_t desk_for(struct run *run, const struct association *association, bool is_about_keys)
+{
+    if (random_percent(&run->random, 10)) {
+        return any_desk(&run->random, association);
+    }
+    return (uint8_t)(is_about_keys || random_percent(&run->random, 40) ? KEY_OFFICE : association->owner);
+}
+
 /* Prepares a sending of one to twenty octets of data. */
 static void prepare_sending(struct run *run, size_t side, size_t entry, struct association *association)
 {
     struct input *input = &run->input;
     association_of(run, side, entry, association);
     input_of_end(input, CALL_SECURE, &run->world.ends[side]);
-    input->desk = any_desk(&run->random, association);
+    input->desk = desk_for(run, association, false);
     input->kind = (uint8_t)association->kind;
     input->spi = (uint16_t)association->spi;
     input->check_field = ends_in_field(association) ? 1 : 0;
@@ -258,7 +267,7 @@ static const struct sent_frame *prepare_check(struct run *run, size_t side, size
     const struct sent_frame *frame = &history->frames[(history->frame_count - 1 - back) % FRAMES_KEPT];
     association_of(run, side, entry, association);
     input_of_end(input, CALL_CHECK, &run->world.ends[side]);
-    input->desk = any_desk(&run->random, association);
+    input->desk = desk_for(run, association, false);
     input->kind = (uint8_t)association->kind;
     input->check_field = ends_in_field(association) ? 1 : 0;
     input->frame_length = frame->length;
@@ -396,7 +405,7 @@ static void prepare_command(struct run *run, size_t side, size_t entry, struct a
         any_key_named(run, side, association);
         make_command(&run->random, input, every_tag[random_below(&run->random, TAG_COUNT)], association, input->numbers[entry]);
     }
-    input->desk = any_desk(&run->random, association);
+    input->desk = desk_for(run, association, !names_spi(input->frame[0]));
     input->output_length = SMALL_FRAME;
 }
 

@@ -15,7 +15,7 @@ enum fault {
     NEEDS_KEY_FREE,    /* a start needs a key that no body of another desk names */
     STEP_OF_ALL,       /* set number is refused where another desk's number is higher */
     COUNTS_OF_ALL,     /* read number gives the sum of all numbers */
-    OTHERS_NUMBER,     /* sending takes the number of the entry before, where that is another desk's */
+    OTHERS_NUMBER,     /* a sent frame depends on the number of the entry before, where that is another desk's */
     KEY_COMMANDS,      /* a laboratory gives key commands */
     LATE_REFUSAL,      /* 19 comes after 13 */
     DESK_3,            /* a desk above 2 is as desk 0 */
@@ -88,6 +88,7 @@ static void tell_too_much(const struct call *call, const struct table *table, st
     }
 }
 
+/* The last octet of the frame tells a bit of that number. */
 static void take_others_number(const struct call *call, const struct table *table, struct effect *effect)
 {
     if (effect->answer == 0 && effect->entry != 0 && is_foreign(&table->entries[effect->entry - 1], call->desk)
