@@ -160,7 +160,7 @@ int main(void)
                  {"ground_check", call_ground_check}};
     size_t before = 0;
     for (size_t i = 0; i < sizeof calls / sizeof calls[0]; i++) {
-        for (unsigned version = 1; version <= 3; version += 2) { /* a key in its body, and one in the key part */
+        for (unsigned version = 1; version <= 4; version += 3) { /* a key in its body, and one in the key part */
             for (unsigned service = 1; service <= 2; service++) {
                 before += try_call(calls[i].name, calls[i].call, version, service);
             }

@@ -71,7 +71,7 @@ static void call_command_cut(void)
     result = made == 1 ? 0 : UINT64_MAX;
 }
 
-/* Of all keys, which only version 3 has; the reply is the longest there is. */
+/* Of all keys, which version 4 has; the reply is the longest there is. */
 static void call_inventory(void)
 {
     static uint8_t command[XISTALVO_INVENTORY_LENGTH];
@@ -113,7 +113,7 @@ static size_t taken_over(int pattern, void (*call)(void))
     return (size_t)(frame_of_caller - (uintptr_t)stack) - unused;
 }
 
-/* Two ends with 32 associations of one kind and service, of which the last is used, in version 3 with 64 keys and the last of them; at the
+/* Two ends with 32 associations of one kind and service, of which the last is used, in version 4 with 64 keys and the last of them; at the
  * receiving end its mark is 15 lower. */
 static void make_ends(unsigned version, unsigned service)
 {
@@ -154,7 +154,7 @@ static void make_frame(unsigned service)
 
 static size_t larger(size_t a, size_t b) { return a > b ? a : b; }
 
-/* The most that a call takes with a frame of any kind and an image of version 1 or 3. */
+/* The most that a call takes with a frame of any kind and an image of version 1 or 4. */
 static size_t taken_by(void (*call)(void), unsigned service)
 {
     static const int patterns[] = {0x5A, 0xA5};
@@ -163,7 +163,7 @@ static size_t taken_by(void (*call)(void), unsigned service)
         kind = (uint8_t)(1 + round / 2);
         check_field = kind != 4;
         for (size_t i = 0; i < sizeof patterns / sizeof patterns[0]; i++) {
-            make_ends(round % 2 == 0 ? 1 : 3, service);
+            make_ends(round % 2 == 0 ? 1 : 4, service);
             make_frame(service);
             if (call == call_check || call == call_ground_check) {
                 call_secure();
