@@ -176,7 +176,8 @@ static void tell(int pipe_end, const void *octets, size_t length)
 static void manage(struct link *link, unsigned end, struct kept *kept, const uint8_t *command, size_t length, unsigned answer)
 {
     uint8_t none[1];
-    uint64_t result = xistalvo_command(lent(link, end, kept), link->length, kept->numbers, XISTALVO_NUMBERS, command, length, none, 0);
+    uint64_t result = xistalvo_command(lent(link, end, kept), link->length, kept->numbers, XISTALVO_NUMBERS, XISTALVO_KEY_OFFICE, command, length,
+                                       none, 0);
     if (XISTALVO_ANSWER(result) != answer) {
         both_fail("a command is answered otherwise than the state that was kept says");
     }
@@ -318,7 +319,7 @@ static void send_frames(struct link *link, int pipe_end)
             manage_association(link, 0, &kept);
         }
         random_octets(&watch.random, clear + 5, DATA_LENGTH);
-        uint64_t result = xistalvo_secure(lent(link, 0, &kept), link->length, kept.numbers, XISTALVO_NUMBERS, XISTALVO_TC,
+        uint64_t result = xistalvo_secure(lent(link, 0, &kept), link->length, kept.numbers, XISTALVO_NUMBERS, XISTALVO_KEY_OFFICE, XISTALVO_TC,
                                           XISTALVO_NO_CHECK_FIELD, SPI, clear, sizeof clear, output, sizeof output);
         if (XISTALVO_ANSWER(result) == XISTALVO_DONE && keep(link, 0, &kept)) {
             tell(pipe_end, output, sizeof output);
@@ -342,7 +343,7 @@ static void check_frames(struct link *link, int pipe_end)
             manage_association(link, 1, &kept);
         }
         memcpy(&released, &link->sent[i], sizeof released);
-        uint64_t result = xistalvo_check(lent(link, 1, &kept), link->length, kept.numbers, XISTALVO_NUMBERS, XISTALVO_TC,
+        uint64_t result = xistalvo_check(lent(link, 1, &kept), link->length, kept.numbers, XISTALVO_NUMBERS, XISTALVO_KEY_OFFICE, XISTALVO_TC,
                                          XISTALVO_NO_CHECK_FIELD, link->sent[i].octets, FRAME_LENGTH, released.octets + 11, DATA_LENGTH);
         if (XISTALVO_ANSWER(result) == XISTALVO_DONE && keep(link, 1, &kept)) {
             tell(pipe_end, &released, sizeof released);
