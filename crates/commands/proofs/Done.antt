@@ -28,7 +28,8 @@ use Rattle.procedures.specs.Procedures.{keyStateIn, procedureIs, procedureBehin
 use Rattle.procedures.specs.declared.procedure.Called.{Called}
 use Rattle.procedures.specs.declared.procedure.Called.the-variants as calls
 use Rattle.procedures.specs.declared.procedure.Procedure as code
-use Rattle.commands.specs.Commanding.{wrongDesk, callsNone, entryNamed, isNothing, testsAt, replyAt, commandReply}
+use Rattle.addressing.specs.Addressing.{wrongDesk, callsNone, entryNamed, isNothing}
+use Rattle.commands.specs.Commanding.{testsAt, replyAt, commandReply}
 use Rattle.commands.proofs.Accepting.{Accepts, accepts-all}
 use Rattle.commands.proofs.Doing.{Ready, numberFor, Quiet, nothing-stored, key-turned, quiet}
 use Rattle.commands.proofs.Turning.{Turns}

@@ -3,57 +3,23 @@
 -- 15, 16, 17, 18 and 6.
 -- Assumes nothing.
 use Prim.Native.Nat.{ℕ}
-use mathlib.Core.Bool.{Bool, true, false, cond, not, _&&_, _||_}
+use mathlib.Core.Bool.{cond, not}
 use mathlib.Core.List.{List, [], _∷_, _++_}
 use lib.Dec.{eqb, ltb}
 use lib.ListN.{length}
 use Rattle.marks.specs.declared.plans.Store.{Store}
-use Rattle.bodies.specs.Body.{keyOffice, stateOf}
-use Rattle.image.specs.Image.{versionOf, bodyOf, validImage}
+use Rattle.bodies.specs.Body.{stateOf}
+use Rattle.image.specs.Image.{versionOf, bodyOf}
 use Rattle.association.specs.Association.{indexOf}
-use Rattle.numbers.specs.Numbers.{numberOf, agrees}
-use Rattle.association.specs.Search.{withSpi}
-use Rattle.association.specs.declared.search.Found.{Found}
-use Rattle.association.specs.declared.search.Found.the-variants as found
+use Rattle.numbers.specs.Numbers.{numberOf}
 use Rattle.judging.specs.Answers.{Test, first}
 use Rattle.judging.specs.Replies.{Reply}
-use Rattle.judging.specs.Said.{noDesk}
 use Rattle.link.specs.Calls.{Left, left, cut}
-use Rattle.command_form.specs.Form.{tagOf, valueOf, spiNamed}
-use Rattle.procedures.specs.Procedures.{Procedure, keyCommand, called, procedureOf}
-use Rattle.procedures.specs.declared.procedure.Called.{Called}
-use Rattle.procedures.specs.declared.procedure.Called.the-variants as calls
-
--- ---- from which desk, which procedure, and which entry
-
--- a number that is no desk's, or a key command from another desk than the key office's
-abbrev pub wrongDesk : ℕ → List ℕ → Bool
-wrongDesk desk command = noDesk desk || (keyCommand (tagOf command) && not (eqb desk keyOffice))
-
-abbrev pub callsNone : Called → Bool
-callsNone (calls.Procedure p) = false
-callsNone calls.Nothing = true
-
--- the entry that a value names, and whether the table has it for that desk; a procedure that names none is carried out with entry 0, which
--- it neither reads nor changes
-unfoldable pub entryNamed : Procedure → List ℕ → ℕ → List ℕ → Found
-entryNamed p image desk value = cond (p .names) (withSpi image desk (spiNamed value)) (found.At 0)
-
-abbrev pub isNothing : Found → Bool
-isNothing (found.At i) = false
-isNothing found.Nothing = true
+use Rattle.command_form.specs.Form.{valueOf}
+use Rattle.procedures.specs.Procedures.{Procedure, procedureOf}
+use Rattle.addressing.specs.Addressing.{entryNamed, addressTests}
 
 -- ---- decided
-
--- the tests that come first
-abbrev pub addressTests : List ℕ → List ℕ → ℕ → List ℕ → List Test
-addressTests image last desk command =
-    (1, not (validImage image))
-    ∷ (2, not (agrees image last))
-    ∷ (19, wrongDesk desk command)
-    ∷ (13, callsNone (called command))
-    ∷ (14, isNothing (entryNamed (procedureOf command) image desk (valueOf command)))
-    ∷ []
 
 -- under an entry and its last number, with that much room in the output
 abbrev pub procedureTests : Procedure → List ℕ → ℕ → ℕ → List ℕ → ℕ → List Test

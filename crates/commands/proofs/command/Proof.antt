@@ -11,8 +11,9 @@ use Rattle.link.specs.Calls.{left}
 use Rattle.link.proofs.Carried.{carried-refusal}
 use Rattle.command_form.specs.Form.{frontLength}
 use Rattle.commands.specs.Commanding.{commandReply, commanded}
-use Rattle.commands.specs.Steps.{Addressed, replyUnder}
-use Rattle.commands.specs.declared.address.Address.{Address}
+use Rattle.addressing.specs.Steps.{Addressed}
+use Rattle.addressing.specs.declared.address.Address.{Address}
+use Rattle.commands.specs.Steps.{replyUnder}
 use Rattle.commands.proofs.Addressing.{command-refused, command-under}
 use borrow.Author.Needs.{needs}
 use Rattle.commands.proofs.command.Statement.{statement}

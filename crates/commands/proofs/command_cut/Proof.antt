@@ -10,8 +10,9 @@ use Rattle.judging.specs.Replies.{Reply}
 use Rattle.link.specs.Calls.{cut}
 use Rattle.command_form.specs.Form.{frontLength}
 use Rattle.commands.specs.Commanding.{madeBy, commandReply}
-use Rattle.commands.specs.Steps.{Addressed, replyUnder}
-use Rattle.commands.specs.declared.address.Address.{Address}
+use Rattle.addressing.specs.Steps.{Addressed}
+use Rattle.addressing.specs.declared.address.Address.{Address}
+use Rattle.commands.specs.Steps.{replyUnder}
 use Rattle.commands.proofs.Addressing.{command-refused, command-under}
 use Rattle.commands.proofs.Cutting.{cut-refusal}
 use borrow.Author.Needs.{needs}

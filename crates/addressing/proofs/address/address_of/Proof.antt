@@ -5,10 +5,10 @@ use native.Mathlib.Omega.{arith}
 use Rattle.judging.specs.declared.answers.Answer.the-variants as answer
 use Rattle.judging.proofs.Admitting.{refuses}
 use Rattle.judging.proofs.Standings.{broken, disagreeing, standing-well}
-use Rattle.commands.proofs.Addressing.{by-1, by-2}
+use Rattle.addressing.proofs.Passing.{by-1, by-2}
 use borrow.Author.Needs.{needs}
-use Rattle.commands.proofs.address.address_of.Statement.{statement}
-use Rattle.commands.proofs.address.address_of.Tie as tie
+use Rattle.addressing.proofs.address.address_of.Statement.{statement}
+use Rattle.addressing.proofs.address.address_of.Tie as tie
 
 abbrev start : tie.After-test-standing → tie.Start
 start c = c .before .before .before

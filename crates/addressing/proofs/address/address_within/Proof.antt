@@ -6,11 +6,11 @@ use mathlib.Core.Bool.{false}
 use native.Mathlib.Omega.{arith}
 use Rattle.judging.specs.declared.answers.Answer.the-variants as answer
 use Rattle.judging.proofs.Admitting.{refuses}
-use Rattle.commands.specs.Commanding.{wrongDesk}
-use Rattle.commands.proofs.Addressing.{by-19, by-13, by-14, addresses}
+use Rattle.addressing.specs.Addressing.{wrongDesk}
+use Rattle.addressing.proofs.Passing.{by-19, by-13, by-14, addresses}
 use borrow.Author.Needs.{needs}
-use Rattle.commands.proofs.address.address_within.Statement.{statement}
-use Rattle.commands.proofs.address.address_within.Tie as tie
+use Rattle.addressing.proofs.address.address_within.Statement.{statement}
+use Rattle.addressing.proofs.address.address_within.Tie as tie
 
 abbrev start : tie.After-wrong-desk → tie.Start
 start c = c .before .before .before

@@ -1,8 +1,8 @@
 -- `wrong_desk` is right because it joins the tests that the definition joins.
 -- Assumes nothing.
 use borrow.Author.Needs.{needs}
-use Rattle.commands.proofs.address.wrong_desk.Statement.{statement}
-use Rattle.commands.proofs.address.wrong_desk.Tie as tie
+use Rattle.addressing.proofs.address.wrong_desk.Statement.{statement}
+use Rattle.addressing.proofs.address.wrong_desk.Tie as tie
 
 returns : tie.Need-returns
 returns c = rw (c .key-command .ensures, c .before .no-desk .ensures)

@@ -19,8 +19,8 @@ ghost use Rattle.image.specs.Image.{validImage};
 ghost use Rattle.numbers.specs.Numbers.{agrees};
 ghost use Rattle.command_form.specs.Form.{valueOf};
 ghost use Rattle.procedures.specs.Procedures.{procedureIs};
-ghost use Rattle.commands.specs.Commanding.{wrongDesk, entryNamed};
-ghost use Rattle.commands.specs.Steps.{Addressed};
+ghost use Rattle.addressing.specs.Addressing.{wrongDesk, entryNamed};
+ghost use Rattle.addressing.specs.Steps.{Addressed};
 
 // The procedure that a command calls and the entry that it names, or the first refusal.
 pub enum Address {
