@@ -14,8 +14,6 @@ use numbers::Numbers;
 use numbers::raise;
 use octets::octet_at;
 
-const OFFICE: u8 = 0;
-
 fn printed(outcome: Outcome, output: &[u8]) -> Numbers {
     let answer = outcome.answer;
     print_answer(answer, output);
@@ -34,8 +32,8 @@ pub(crate) fn run_raise(line: &[u8], image: &mut [u8], numbers: Numbers) -> Numb
     numbers
 }
 
-// `secure KIND FIELD SPI ROOM FRAME`; `check KIND FIELD ROOM FRAME`, where the SPI stands in the frame; or `manage ROOM COMMAND`. FIELD is 00
-// for no check field. The desk is the key office's, which sees every association.
+// `secure DESK KIND FIELD SPI ROOM FRAME`; `check DESK KIND FIELD ROOM FRAME`, where the SPI stands in the frame; or `manage DESK ROOM COMMAND`.
+// FIELD is 00 for no check field.
 fn outcome(
     line: &[u8],
     image: &mut [u8],
@@ -43,16 +41,17 @@ fn outcome(
     frame: &[u8],
     output: &mut [u8],
 ) -> Outcome {
+    let desk = octet(line, 1);
     if octet_at(line, 0) == b'm' {
-        return command(image, numbers, OFFICE, frame, output);
+        return command(image, numbers, desk, frame, output);
     }
     let said = Said {
-        desk: OFFICE,
-        kind: octet(line, 1),
-        field: octet(line, 2) != 0,
+        desk,
+        kind: octet(line, 2),
+        field: octet(line, 3) != 0,
     };
     if octet_at(line, 0) == b's' {
-        return securing::secure(image, numbers, said, two(line, 3), frame, output);
+        return securing::secure(image, numbers, said, two(line, 4), frame, output);
     }
     checking::check(image, numbers, said, frame, output)
 }
