@@ -40,7 +40,7 @@ static void bring_to_version_4(void)
     struct xistalvo_key keys[KEYS];
     uint16_t key_ids[COUNT];
     for (size_t i = 0; i < COUNT; i++) {
-        const uint8_t *key = image + XISTALVO_AT_KEY_3(COUNT, i);
+        const uint8_t *key = image + xistalvo_place_of_key(image, i);
         xistalvo_read_association(image, i, &both[i]);
         key_ids[i] = (uint16_t)xistalvo_get_two(image + xistalvo_place_of_body(image, i) + XISTALVO_IN_KEY_ID_3);
         keys[i].id = (uint16_t)xistalvo_get_two(key + XISTALVO_IN_KEY_OWN_ID);
