@@ -315,6 +315,17 @@ static inline size_t xistalvo_place_of_mark(const uint8_t *image, size_t i)
     return xistalvo_place_of_body(image, i) + (image[XISTALVO_AT_VERSION] >= XISTALVO_IMAGE_VERSION_KEYS ? XISTALVO_IN_MARK_3 : XISTALVO_IN_MARK);
 }
 
+/* Where the count of keys and key j stand in an image of version 3 or 4 that loads. */
+static inline size_t xistalvo_place_of_key_count(const uint8_t *image)
+{
+    return xistalvo_place_of_body(image, image[XISTALVO_AT_COUNT]); /* behind the last body */
+}
+
+static inline size_t xistalvo_place_of_key(const uint8_t *image, size_t j)
+{
+    return xistalvo_place_of_key_count(image) + 1 + XISTALVO_KEY_LENGTH_3 * j;
+}
+
 /* The desk that owns association i of an image that loads, whatever its version: below version 4 it is desk 1. */
 static inline uint8_t xistalvo_owner_of(const uint8_t *image, size_t i)
 {

@@ -142,6 +142,11 @@ static void judge_reading(const struct table *table, const struct laid_out *laid
             || xistalvo_place_of_mark(image, i) != mark_position(table->version, table->count, i)) {
             both_fail("a body or its mark stands elsewhere");
         }
+        if (has_key_part(table->version) && table->key_count != 0
+            && (xistalvo_place_of_key(image, i % table->key_count) != key_position(table->version, table->count, i % table->key_count)
+                || xistalvo_place_of_key_count(image) != key_position(table->version, table->count, 0) - 1)) {
+            both_fail("a key, or the count of keys, stands elsewhere");
+        }
         if (xistalvo_owner_of(image, i) != (table->version == 4 ? table->entries[i].owner : 1)) {
             both_fail("an owner is read otherwise than it was laid out");
         }
