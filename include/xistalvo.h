@@ -296,8 +296,8 @@ uint64_t xistalvo_command(uint8_t *image, size_t image_length, uint32_t *numbers
  * says, or all where there are fewer, and returns how many it made. Where the mark is already there or higher there are none.
  * An image whose version is not 1 to 4, whose count is above 32 or whose length is not 2 + 56 k, or in version 3 7 + 26 k + 35 q and in version 4
  * 7 + 27 k + 35 q where q is its count of keys, and an entry that is not below the count k: none is made and 0 returned. No other rule of the image
- * is tested; the mark is where the layout puts it, in octets 48 to 51 of the body at 2 + 4 k + 52 entry, or in version 3 and 4 octets 18 to 21 of
- * that at 6 + 4 k + 22 entry and 6 + 4 k + 23 entry, whatever the contents say of its position. A cut has no desk: it is no call.
+ * is tested; the mark is where the layout puts it, in octets 48 to 51 of the body at 2 + 4 k + 52 entry, or in versions 3 and 4 octets 18 to 21 of
+ * that at 6 + 4 k + 22 entry or 6 + 4 k + 23 entry, whatever the contents say of its position. A cut has no desk: it is no call.
  * Only those octets of the image are written. Securing, checking and commands make all their stores before they write the output. */
 uint32_t xistalvo_raise(uint8_t *image, size_t image_length, uint8_t entry, uint32_t number, uint32_t stores);
 

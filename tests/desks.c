@@ -783,7 +783,8 @@ static void try_figures(struct options options)
     try_as_unknown();
     try_older();
     try_owners();
-    printf("desks: %zu images and %d calls from each of 256 desks, %" PRIu64 " calls in all: version 4, what a desk sees and 19 as the request says\n",
+    printf("desks: %zu images and %d calls from each of 256 desks, %" PRIu64
+           " calls in all: version 4, what a desk sees and 19 as the request says\n",
            sizeof images / sizeof images[0], ASKED, calls);
 }
 
@@ -799,8 +800,9 @@ int main(int argument_count, char **arguments)
     }
     printf("desks: seed %" PRIu64 ", %" PRIu64 " pairs of runs that watch desk 1 and %" PRIu64 " that watch desk 2, %" PRIu64 " steps: %" PRIu64
            " calls of a client, %" PRIu64 " done and %" PRIu64 " refused, %" PRIu64 " about another's association; %" PRIu64
-           " calls of the other desk, %" PRIu64 " loads, %" PRIu64 " cuts, %" PRIu64 " images broken and %" PRIu64 " numbers that disagree by the other "
-           "desk's part; %" PRIu64 " calls of the key office taken back because the key parts would have parted; no client could tell its run\n",
+           " calls of the other desk, %" PRIu64 " loads, %" PRIu64 " cuts, %" PRIu64 " images broken and %" PRIu64
+           " numbers that disagree by the other desk's part; %" PRIu64
+           " calls of the key office taken back because the key parts would have parted; no client could tell its run\n",
            options.seed, totals.pairs[1], totals.pairs[2], totals.steps, totals.answers, totals.done, totals.refused, totals.of_foreign,
            totals.others, totals.loads, totals.cuts, totals.broken, totals.disagreeing, totals.parted);
     if (options.count >= ENOUGH_PAIRS && !pairs_are_enough()) {

@@ -3,12 +3,12 @@
  *
  *   differential [--seed S] [--count N] [--from W]
  *
- * An input is one call. Inputs come in worlds: two ends of a link with random associations, and about forty calls on them. The generator of
- * world W is made from the seed and W alone, so --from W takes a run up there. At the end the answers are counted by call, kind and service
- * of the association that the input was made for, TM associations with a set of channels and TM frames with a secondary header apart; those to
- * commands by tag, and what they asked for at limits; what was met of key parts and owners, and broken in them; what each desk was answered; a long
- * run that misses an answer or a limit that can be reached fails, and a longer one that misses a length of a secondary header, with a check field or without, or changed no frame with
- * both in each bit. */
+ * An input is one call. Inputs come in worlds: two ends of a link with random associations, and about forty calls on them. The generator of world
+ * W is made from the seed and W alone, so --from W takes a run up there. At the end the answers are counted by call, kind and service of the
+ * association that the input was made for, TM associations with a set of channels and TM frames with a secondary header apart; those to commands
+ * by tag, and what they asked for at limits; what was met of key parts and owners, and broken in them; what each desk was answered; a long run
+ * that misses an answer or a limit that can be reached fails, and a longer one that misses a length of a secondary header, with a check field or
+ * without, or changed no frame with both in each bit. */
 #include "support/both.h"
 #include "support/commands.h"
 #include "support/options.h"
@@ -72,10 +72,10 @@ struct run {
     uint64_t starts[VERSIONS + 1][SET_ROW + 1][5];   /* version; kind; done, refused by 15, 16, 17, 18 */
     uint64_t key_faults[KEY_FAULTS];                 /* loads refused for it alone */
     uint64_t key_sights[KEY_SIGHTS];                 /* loads done */
-    uint64_t keys_asked[ABOUT_KEYS][KEY_STATES + 1]; /* in version 3: command; state of the key, or none there; that were done or refused by 17, 18 */
+    uint64_t keys_asked[ABOUT_KEYS][KEY_STATES + 1]; /* from version 3 on: command; state of the key, or none; done, 17 or 18 */
     uint64_t in_use;                                 /* deactivations of an active key, refused */
     size_t changed_octet;                            /* of the IV's prefix in the frame that was just made, whose number would do; or PREFIX */
-    uint64_t prefixes[PREFIX];                       /* checks refused by 8 for it, in version 3 */
+    uint64_t prefixes[PREFIX];                       /* checks refused by 8 for it, from version 3 on */
     uint64_t other_ivs;                              /* round trips between versions whose IVs differ, refused by 8 */
     uint64_t windows_held[3][LIMITS];                /* state; window of the body, of starts */
     uint64_t windows_asked[3][LIMITS];               /* state; window of set window */
@@ -1245,8 +1245,8 @@ static unsigned print_desks(const struct run *run)
             }
         }
     }
-    printf("calls tried again with all that the desk does not see made anew: %" PRIu64 "; frames refused at a desk that does not see the association: %"
-           PRIu64 "\n", run->unseen, run->blind_trips);
+    printf("calls tried again with all that the desk does not see made anew: %" PRIu64
+           "; frames refused at a desk that does not see the association: %" PRIu64 "\n", run->unseen, run->blind_trips);
     return faults + (run->unseen == 0) + (run->blind_trips == 0);
 }
 

@@ -1,7 +1,7 @@
-/* Keys in one place (document 02, request 9) through the C interface, with figures of its own: images of version 3 octet by octet, and the counts of
- * versions 3 and 4; the IV and its prefix, in version 4 too; the sentences on keys as a table over every state of key and association; inventories of every range into outputs of every length; power
- * that fails after each store of a rekey, an activation and a deactivation; a shared key changed in one place. Each call is also compared with the
- * independent reading (support/both.h).
+/* Keys in one place (document 02, request 9) through the C interface, with figures of its own: images of version 3 octet by octet, and the counts
+ * of versions 3 and 4; the IV and its prefix, in version 4 too; the sentences on keys as a table over every state of key and association;
+ * inventories of every range into outputs of every length; power that fails after each store of a rekey, an activation and a deactivation; a
+ * shared key changed in one place. Each call is also compared with the independent reading (support/both.h).
  *
  *   keys [--seed S] [--count N] [--from W] */
 #include "support/both.h"
@@ -136,8 +136,8 @@ static void try_smallest(unsigned version)
     }
 }
 
-/* All counts of keys with no association, one and 32. The largest image has 3,079 or 3,111 octets, and the sixty-fifth key is one too many, for a load; a
- * cut tests no such rule (xistalvo.h). */
+/* All counts of keys with no association, one and 32. The largest image has 3,079 or 3,111 octets, and the sixty-fifth key is one too many, for a
+ * load; a cut tests no such rule (xistalvo.h). */
 static void try_every_count(unsigned version)
 {
     size_t of_body = version == 3 ? 26 : 27; /* and its entry of the contents */
@@ -191,7 +191,8 @@ static void lay_out_one(struct input *input, enum which_call which, unsigned ver
     memset(input, 0, sizeof *input);
     table.version = version;
     table.count = 1;
-    struct association entry = {spi, service, 1, direction, 2, 27, 5, false, 0, 100, {255, 255, 255, 255, 255, 0}, has_key_part(version), 7, {0}, 0, 1};
+    struct association entry = {spi, service, 1, direction, 2, 27, 5, false, 0, 100, {255, 255, 255, 255, 255, 0}, has_key_part(version), 7, {0},
+                                0, 1};
     memset(entry.key, 0x77, KEY_LENGTH);
     table.entries[0] = entry;
     table.key_count = 2;

@@ -1,6 +1,6 @@
 /* Random runs of loads, sendings, checks and management commands at both ends of a link, with power failing after any stored octet, and demand 3
- * of document 01, as requests 5, 9 and 10 of document 02 have it, held to what really went out and was really released, association by association, over
- * all channels of one together:
+ * of document 01, as requests 5, 9 and 10 of document 02 have it, held to what really went out and was really released, association by
+ * association, over all channels of one together:
  *
  *   no number goes out twice, and none is released twice;
  *   numbers only rise, through stop, expire, rekey, start, windows and set number;
@@ -742,7 +742,8 @@ static void print_commands(const struct run *run)
     printf("frames sent under a key that another association used before: %" PRIu64 ", under another key than the one before: %" PRIu64
            "; refused for a key that the other end does not use: %" PRIu64 ", for an IV that it makes otherwise: %" PRIu64 "\n",
            run->shared, run->changed_keys, run->other_keys, run->other_ivs);
-    printf("calls done and cut, by desk 0, 1, 2: %" PRIu64 " %" PRIu64 ", %" PRIu64 " %" PRIu64 ", %" PRIu64 " %" PRIu64 "; calls about another desk's association: %" PRIu64
+    printf("calls done and cut, by desk 0, 1, 2: %" PRIu64 " %" PRIu64 ", %" PRIu64 " %" PRIu64 ", %" PRIu64 " %" PRIu64
+           "; calls about another desk's association: %" PRIu64
            ", from a desk that there is not: %" PRIu64 ", commands about keys from a laboratory: %" PRIu64 "\n",
            run->by_desk[0], run->cut_by_desk[0], run->by_desk[1], run->cut_by_desk[1], run->by_desk[2], run->cut_by_desk[2], run->unseen,
            run->no_desks, run->not_theirs);

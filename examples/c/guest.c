@@ -63,8 +63,8 @@ static void send(uint8_t desk, const char *what, uint16_t spi, uint8_t channel)
 {
     const uint8_t frame[] = {0x40 | SPACECRAFT >> 2, (uint8_t)((SPACECRAFT & 3) << 6 | channel), 0, 0, 0, 0, 'd', 'a', 't', 'a'};
     uint8_t secured[sizeof frame + 30];
-    say(desk, what, xistalvo_secure(image, image_length, numbers, XISTALVO_NUMBERS, desk, XISTALVO_AOS, XISTALVO_NO_CHECK_FIELD, spi, frame, sizeof frame,
-                                    secured, sizeof secured));
+    say(desk, what, xistalvo_secure(image, image_length, numbers, XISTALVO_NUMBERS, desk, XISTALVO_AOS, XISTALVO_NO_CHECK_FIELD, spi, frame,
+                                    sizeof frame, secured, sizeof secured));
 }
 
 int main(void)

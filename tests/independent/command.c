@@ -193,7 +193,7 @@ static bool value_is_allowed(const struct call *call, const struct command *comm
     switch (command->what) {
     case START: /* 'start refuses (16) one outside 1 to 1,024' */
         return channels_are_own(command) && window_is_allowed(association->window);
-    case REKEY: /* 'its key ID is 0', and in version 3 any; 'keeping .. mark', so that no number can be asked for */
+    case REKEY: /* 'its key ID is 0', and from version 3 on any; 'keeping .. mark', so that no number can be asked for */
         return (association->names_key || number_of_octets(rest, ID_LENGTH) == 0) && number_of_octets(rest + ID_LENGTH, 4) == 0
             && number_of_octets(rest + ID_LENGTH + 4, 8) == 0;
     case SET_WINDOW:
