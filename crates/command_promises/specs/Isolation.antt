@@ -1,9 +1,9 @@
 -- Other projects' bodies change nothing of a command's answer either. With two valid images whose numbers agree with their marks, the same
--- command of the same desk with an output of the same length gives the same answer number, length, stores and reply, if both images have an entry with the
--- command's SPI, with the same body, read by the same version, and the same number, which the desk sees, or neither has one, or the command names none; and if
--- the keys of both have the same IDs and states. A start names channels, and the same octets of a TM body are one channel in version 1 and a
--- set in version 2. A deactivation alone looks at all bodies: of it this is said where both images have operational bodies for the key, or
--- neither has.
+-- command of the same desk with an output of the same length gives the same answer number, length, stores and reply, if both images have an
+-- entry with the command's SPI, with the same body, read by the same version, and the same number, which the desk sees, or neither has one,
+-- or the command names none; and if the keys of both have the same IDs and states. A start names channels, and the same octets of a TM body
+-- are one channel in version 1 and a set in version 2. A deactivation alone looks at all bodies: of it this is said where both images have
+-- operational bodies for the key, or neither has.
 -- Assumes nothing.
 use Prim.Native.Nat.{ℕ, _<_}
 use mathlib.Core.Path.{_≡_}

@@ -1,9 +1,10 @@
--- Demand 3 with management commands (document 02, requests 5, 9 and 10): in every run, under every association, numbers only rise. A run begins with a
--- load of any image, and goes on with loads, sendings, checks and commands, by any desks and with any arguments, any of which may be cut after any of its
--- stores, after which only a load comes. Under each association the numbers of frames handed out strictly rise, and so do those of data
--- released, through stop, expire, rekey, start and changes of window and number. A sent number exceeds the one before by at most 1 plus 64
--- for each load between them, if no set number for that association, whole or cut, came between. The image stays valid, and only states,
--- windows, key IDs and marks of its bodies and states of its keys change. It supposes only that the image and the commands are octets.
+-- Demand 3 with management commands (document 02, requests 5, 9 and 10): in every run, under every association, numbers only rise. A run
+-- begins with a load of any image, and goes on with loads, sendings, checks and commands, by any desks and with any arguments, any of which
+-- may be cut after any of its stores, after which only a load comes. Under each association the numbers of frames handed out strictly rise,
+-- and so do those of data released, through stop, expire, rekey, start and changes of window and number. A sent number exceeds the one
+-- before by at most 1 plus 64 for each load between them, if no set number for that association, whole or cut, came between. The image
+-- stays valid, and only states, windows, key IDs and marks of its bodies and states of its keys change. It supposes only that the image and
+-- the commands are octets.
 -- Assumes nothing.
 use Prim.Native.Nat.{ℕ, _+_, _*_, _≤_, _<_}
 use mathlib.Core.Path.{_≡_}
@@ -22,8 +23,8 @@ use Rattle.promises.specs.Runs.{State, kept, restart, sent, released, Once, beg
 
 -- ---- a run
 
--- A step of a run without commands; or a command of a desk, with its output, which may be cut after j of its stores, and the load that then comes is
--- handed any numbers.
+-- A step of a run without commands; or a command of a desk, with its output, which may be cut after j of its stores, and the load that then
+-- comes is handed any numbers.
 pub data Step : Type 0 where
   call : frames.Step → Step
   command : ℕ → List ℕ → List ℕ → Step

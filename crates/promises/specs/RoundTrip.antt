@@ -1,10 +1,10 @@
--- Demand 2: what one end secures the other end releases. If securing a frame under an SPI answers 0, then checking the frame that went
--- out, under the same kind and the same word on the check field, answers 0 at the other end's desk, which may be another, and its result is exactly the clear frame's
--- data. It supposes what document 01 lets it suppose: the other end's image is valid and its numbers agree with it, its entry is operational,
--- seen by that desk, and holds the same SPI, service, kind, key, mask, spacecraft and MAP with direction 2 and serves the frame's channel (whatever other
--- channels either end serves, whatever ID either has for the key, and whichever version either image has; but under service 2 both
--- are below version 3, or neither is, so that they make the IV alike), its output is long enough, and the number on the frame lies in its
--- window. One statement for both services and every kind, with a check field and without.
+-- Demand 2: what one end secures the other end releases. If securing a frame under an SPI answers 0, then checking the frame that went out,
+-- under the same kind and the same word on the check field, answers 0 at the other end's desk, which may be another, and its result is
+-- exactly the clear frame's data. It supposes what document 01 lets it suppose: the other end's image is valid and its numbers agree with
+-- it, its entry is operational, seen by that desk, and holds the same SPI, service, kind, key, mask, spacecraft and MAP with direction 2
+-- and serves the frame's channel (whatever other channels either end serves, whatever ID either has for the key, and whichever version
+-- either image has; but under service 2 both are below version 3, or neither is, so that they make the IV alike), its output is long
+-- enough, and the number on the frame lies in its window. One statement for both services and every kind, with a check field and without.
 -- Assumes nothing.
 use Prim.Native.Nat.{ℕ, _≤_, _<_}
 use mathlib.Core.Path.{_≡_}
