@@ -84,12 +84,12 @@ static void take_turn(struct run *run, double times[2])
     for (int i = 0; i < FRAMES; i++) {
         double before = now();
         uint64_t sent = (run->is_on_ground ? xistalvo_ground_secure : xistalvo_secure)(
-            run->here.image, run->here.image_length, run->here.numbers, XISTALVO_NUMBERS, XISTALVO_TM, run->check_field, SPI, run->clear,
-            run->clear_length, run->secured, ROOM);
+            run->here.image, run->here.image_length, run->here.numbers, XISTALVO_NUMBERS, XISTALVO_KEY_OFFICE, XISTALVO_TM, run->check_field,
+            SPI, run->clear, run->clear_length, run->secured, ROOM);
         double between = now();
         uint64_t received = (run->is_on_ground ? xistalvo_ground_check : xistalvo_check)(
-            run->there.image, run->there.image_length, run->there.numbers, XISTALVO_NUMBERS, XISTALVO_TM, run->check_field, run->secured,
-            XISTALVO_LENGTH(sent), run->released, ROOM);
+            run->there.image, run->there.image_length, run->there.numbers, XISTALVO_NUMBERS, XISTALVO_KEY_OFFICE, XISTALVO_TM, run->check_field,
+            run->secured, XISTALVO_LENGTH(sent), run->released, ROOM);
         times[0] += (between - before) / FRAMES;
         times[1] += (now() - between) / FRAMES;
         need(XISTALVO_ANSWER(sent) == 0 && XISTALVO_ANSWER(received) == 0, "a frame was refused");

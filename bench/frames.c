@@ -132,14 +132,15 @@ static bool is_on_ground;
 static uint64_t secure(struct link *l, uint32_t *numbers)
 {
     return (is_on_ground ? xistalvo_ground_secure : xistalvo_secure)(l->here, XISTALVO_IMAGE_LENGTH(l->entries), numbers, XISTALVO_NUMBERS,
-                                                                     l->kind, l->check_field, l->spi, l->clear, l->clear_length, l->secured,
-                                                                     MOST);
+                                                                     XISTALVO_KEY_OFFICE, l->kind, l->check_field, l->spi, l->clear, l->clear_length,
+                                                                     l->secured, MOST);
 }
 
 static uint64_t check(struct link *l, uint32_t *numbers)
 {
     return (is_on_ground ? xistalvo_ground_check : xistalvo_check)(l->there, XISTALVO_IMAGE_LENGTH(l->entries), numbers, XISTALVO_NUMBERS,
-                                                                   l->kind, l->check_field, l->secured, l->secured_length, l->released, MOST);
+                                                                   XISTALVO_KEY_OFFICE, l->kind, l->check_field, l->secured, l->secured_length,
+                                                                   l->released, MOST);
 }
 
 static double secure_frames(struct link *l, size_t count)

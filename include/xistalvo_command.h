@@ -73,7 +73,7 @@ static inline size_t xistalvo_make_start(uint16_t spi, const uint32_t *names, si
     return length;
 }
 
-/* Rekey, with number 0: XISTALVO_REKEY_LENGTH octets. For an image of version 3, with the ID of the key that is to be used. */
+/* Rekey, with number 0: XISTALVO_REKEY_LENGTH octets. For an image of version 3 or 4, with the ID of the key that is to be used. */
 static inline size_t xistalvo_make_rekey_to(uint16_t spi, uint16_t key_id, uint8_t *command, size_t room)
 {
     size_t length = xistalvo_begin_command(XISTALVO_TAG_REKEY, spi, command, XISTALVO_REKEY_LENGTH, room);
@@ -89,7 +89,7 @@ static inline size_t xistalvo_make_rekey(uint16_t spi, uint8_t *command, size_t 
     return xistalvo_make_rekey_to(spi, 0, command, room);
 }
 
-/* Activation or deactivation: XISTALVO_KEY_ALONE_LENGTH octets. */
+/* Activation or deactivation: XISTALVO_KEY_ALONE_LENGTH octets. For the key office's desk, 0, alone, and so is inventory. */
 static inline size_t xistalvo_make_key_alone(uint8_t tag, uint16_t key_id, uint8_t *command, size_t room)
 {
     return xistalvo_begin_command(tag, key_id, command, XISTALVO_KEY_ALONE_LENGTH, room);

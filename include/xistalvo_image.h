@@ -24,11 +24,11 @@ struct xistalvo_association {
     uint8_t map;         /* 0 to 63 for TC with segment header, else 0 */
     uint16_t window;     /* 1 to 1,024; any, where the state is not operational */
     uint8_t mask[6];     /* a bit 1 puts the header's bit under the MAC; for TC without segment header the last octet is 0 */
-    uint8_t key[32];     /* in version 3 it does not count: the key is in the table of keys */
+    uint8_t key[32];     /* from version 3 on it does not count: the key is in the table of keys */
     uint32_t mark; /* 0 in a new image; below 67,108,864 */
 };
 
-/* One key of an image of version 3. */
+/* One key of an image of version 3 or 4. */
 struct xistalvo_key {
     uint16_t id;   /* each above the one before in the table; the first may be 0 */
     uint8_t state; /* XISTALVO_KEY_PRE_ACTIVE, XISTALVO_KEY_ACTIVE or XISTALVO_KEY_DEACTIVATED */
@@ -158,6 +158,22 @@ static inline const char *xistalvo_image_fault_3(const struct xistalvo_associati
     return NULL;
 }
 
+/* The same for version 4. owners[i] is the desk that association i belongs to, 1 or 2. */
+static inline const char *xistalvo_image_fault_4(const struct xistalvo_association *associations, const uint16_t *key_ids, const uint8_t *owners,
+                                                 size_t count, const struct xistalvo_key *keys, size_t key_count, size_t *at)
+{
+    const char *fault = xistalvo_image_fault_3(associations, key_ids, count, keys, key_count, at);
+    if (fault != NULL) {
+        return fault;
+    }
+    for (*at = 0; *at < count; ++*at) {
+        if (owners[*at] != XISTALVO_DESK_1 && owners[*at] != XISTALVO_DESK_2) {
+            return "an owner is desk 1 or 2";
+        }
+    }
+    return NULL;
+}
+
 static inline void xistalvo_put_two(uint8_t *place, unsigned int value)
 {
     place[0] = (uint8_t)(value >> 8 & 0xFFu);
@@ -228,6 +244,31 @@ static inline void xistalvo_put_keys(uint8_t *place, const struct xistalvo_key *
     }
 }
 
+/* What versions 3 and 4 have before the key part and in it. owners is a null pointer for version 3, whose bodies have none. */
+static inline size_t xistalvo_lay_out(const struct xistalvo_association *associations, const uint16_t *key_ids, const uint8_t *owners,
+                                      size_t count, const struct xistalvo_key *keys, size_t key_count, uint8_t *image)
+{
+    size_t body_length = owners == NULL ? XISTALVO_BODY_LENGTH_3 : XISTALVO_BODY_LENGTH_4;
+    size_t at = XISTALVO_AT_SPI(count + 1), i;
+    image[XISTALVO_AT_VERSION] = owners == NULL ? XISTALVO_IMAGE_VERSION_KEYS : XISTALVO_IMAGE_VERSION_DESKS;
+    image[XISTALVO_AT_COUNT] = (uint8_t)count;
+    for (i = 0; i < count; i++, at += body_length) {
+        xistalvo_put_two(image + XISTALVO_AT_SPI(i), associations[i].spi);
+        xistalvo_put_two(image + XISTALVO_AT_POSITION(i), (unsigned int)at);
+        xistalvo_put_front(image + at, &associations[i]);
+        xistalvo_put_two(image + at + XISTALVO_IN_KEY_ID_3, key_ids[i]);
+        xistalvo_put_mark(image + at + XISTALVO_IN_MARK_3, associations[i].mark);
+        if (owners != NULL) {
+            image[at + XISTALVO_IN_OWNER_4] = owners[i];
+        }
+    }
+    xistalvo_put_two(image + XISTALVO_AT_SPI(count), XISTALVO_KEY_PART_SPI);
+    xistalvo_put_two(image + XISTALVO_AT_POSITION(count), (unsigned int)at);
+    image[at] = (uint8_t)key_count;
+    xistalvo_put_keys(image + at + 1, keys, key_count);
+    return at + 1 + XISTALVO_KEY_LENGTH_3 * key_count;
+}
+
 /* Lays out the image of version 3 of a table of associations, of the IDs that they name, and of a table of keys, and gives its length,
  * XISTALVO_IMAGE_LENGTH_3(count, key_count). Where the tables break a rule or the buffer is shorter than that, it gives 0 and writes nothing. */
 static inline size_t xistalvo_make_image_3(const struct xistalvo_association *associations, const uint16_t *key_ids, size_t count,
@@ -238,21 +279,19 @@ static inline size_t xistalvo_make_image_3(const struct xistalvo_association *as
         || image_room < XISTALVO_IMAGE_LENGTH_3(count, key_count)) {
         return 0;
     }
-    image[XISTALVO_AT_VERSION] = XISTALVO_IMAGE_VERSION_KEYS;
-    image[XISTALVO_AT_COUNT] = (uint8_t)count;
-    for (i = 0; i < count; i++) {
-        uint8_t *body = image + XISTALVO_AT_BODY_3(count, i);
-        xistalvo_put_two(image + XISTALVO_AT_SPI(i), associations[i].spi);
-        xistalvo_put_two(image + XISTALVO_AT_POSITION(i), (unsigned int)XISTALVO_AT_BODY_3(count, i));
-        xistalvo_put_front(body, &associations[i]);
-        xistalvo_put_two(body + XISTALVO_IN_KEY_ID_3, key_ids[i]);
-        xistalvo_put_mark(body + XISTALVO_IN_MARK_3, associations[i].mark);
+    return xistalvo_lay_out(associations, key_ids, NULL, count, keys, key_count, image);
+}
+
+/* The same for version 4, with the desks that own the associations; the length is XISTALVO_IMAGE_LENGTH_4(count, key_count). */
+static inline size_t xistalvo_make_image_4(const struct xistalvo_association *associations, const uint16_t *key_ids, const uint8_t *owners,
+                                           size_t count, const struct xistalvo_key *keys, size_t key_count, uint8_t *image, size_t image_room)
+{
+    size_t i;
+    if (xistalvo_image_fault_4(associations, key_ids, owners, count, keys, key_count, &i) != NULL
+        || image_room < XISTALVO_IMAGE_LENGTH_4(count, key_count)) {
+        return 0;
     }
-    xistalvo_put_two(image + XISTALVO_AT_SPI(count), XISTALVO_KEY_PART_SPI);
-    xistalvo_put_two(image + XISTALVO_AT_POSITION(count), (unsigned int)XISTALVO_AT_KEY_COUNT_3(count));
-    image[XISTALVO_AT_KEY_COUNT_3(count)] = (uint8_t)key_count;
-    xistalvo_put_keys(image + XISTALVO_AT_KEY_3(count, 0), keys, key_count);
-    return XISTALVO_IMAGE_LENGTH_3(count, key_count);
+    return xistalvo_lay_out(associations, key_ids, owners, count, keys, key_count, image);
 }
 
 static inline unsigned int xistalvo_get_two(const uint8_t *place)
@@ -264,15 +303,39 @@ static inline unsigned int xistalvo_get_two(const uint8_t *place)
 static inline size_t xistalvo_place_of_body(const uint8_t *image, size_t i)
 {
     size_t count = image[XISTALVO_AT_COUNT];
-    return image[XISTALVO_AT_VERSION] == XISTALVO_IMAGE_VERSION_KEYS ? XISTALVO_AT_BODY_3(count, i) : XISTALVO_AT_BODY(count, i);
+    switch (image[XISTALVO_AT_VERSION]) {
+    case XISTALVO_IMAGE_VERSION_KEYS: return XISTALVO_AT_BODY_3(count, i);
+    case XISTALVO_IMAGE_VERSION_DESKS: return XISTALVO_AT_BODY_4(count, i);
+    default: return XISTALVO_AT_BODY(count, i);
+    }
 }
 
 static inline size_t xistalvo_place_of_mark(const uint8_t *image, size_t i)
 {
-    return xistalvo_place_of_body(image, i) + (image[XISTALVO_AT_VERSION] == XISTALVO_IMAGE_VERSION_KEYS ? XISTALVO_IN_MARK_3 : XISTALVO_IN_MARK);
+    return xistalvo_place_of_body(image, i) + (image[XISTALVO_AT_VERSION] >= XISTALVO_IMAGE_VERSION_KEYS ? XISTALVO_IN_MARK_3 : XISTALVO_IN_MARK);
 }
 
-/* Reads association i out of an image that loads, whatever its version; the mark as a number. Of version 3 it leaves the key as it was: the
+/* Where the count of keys and key j stand in an image of version 3 or 4 that loads. */
+static inline size_t xistalvo_place_of_key_count(const uint8_t *image)
+{
+    return xistalvo_place_of_body(image, image[XISTALVO_AT_COUNT]); /* behind the last body */
+}
+
+static inline size_t xistalvo_place_of_key(const uint8_t *image, size_t j)
+{
+    return xistalvo_place_of_key_count(image) + 1 + XISTALVO_KEY_LENGTH_3 * j;
+}
+
+/* The desk that owns association i of an image that loads, whatever its version: below version 4 it is desk 1. */
+static inline uint8_t xistalvo_owner_of(const uint8_t *image, size_t i)
+{
+    if (image[XISTALVO_AT_VERSION] != XISTALVO_IMAGE_VERSION_DESKS) {
+        return XISTALVO_DESK_1;
+    }
+    return image[xistalvo_place_of_body(image, i) + XISTALVO_IN_OWNER_4];
+}
+
+/* Reads association i out of an image that loads, whatever its version; the mark as a number. From version 3 on it leaves the key as it was: the
  * association names one, in its octets 16 and 17. */
 static inline void xistalvo_read_association(const uint8_t *image, size_t i, struct xistalvo_association *association)
 {
@@ -288,7 +351,7 @@ static inline void xistalvo_read_association(const uint8_t *image, size_t i, str
     association->map = body[XISTALVO_IN_MAP];
     association->window = (uint16_t)xistalvo_get_two(body + XISTALVO_IN_WINDOW);
     xistalvo_put_octets(association->mask, body + XISTALVO_IN_MASK, sizeof association->mask);
-    if (image[XISTALVO_AT_VERSION] != XISTALVO_IMAGE_VERSION_KEYS) {
+    if (image[XISTALVO_AT_VERSION] < XISTALVO_IMAGE_VERSION_KEYS) {
         xistalvo_put_octets(association->key, body + XISTALVO_IN_KEY, sizeof association->key);
     }
     for (association->mark = 0; code != 0; code >>= 1) { /* each bit of a mark is the sum of those of its code from there upwards */

@@ -1,6 +1,7 @@
 /* The cases A to O of document 01 through the C interface, with the paper's own figures, and its slips; and of document 02 the fields
- * and limits of AOS (request 1), sets of channels (2), the check field (4) and secondary headers (6). Each call is also compared with the
- * independent reading (support/both.h). */
+ * and limits of AOS (request 1), sets of channels (2), the check field (4) and secondary headers (6). All of it holds under desk 0 and under desk 1;
+ * and under desk 2, which owns nothing in an image of version 1, each case is answered as with an SPI that is not there (10). Each call is also
+ * compared with the independent reading (support/both.h). */
 #include "support/both.h"
 
 #include <stdio.h>
@@ -9,6 +10,7 @@
 
 static struct random test_random;
 static unsigned passed;
+static uint8_t test_desk;
 
 static void expect(bool is_right, const char *name, const char *what)
 {
@@ -79,6 +81,7 @@ static void start_input(struct input *input, enum which_call which, const struct
     input->which = which;
     input->image_length = image_of(setting, input->image);
     input->numbers_length = NUMBER_COUNT;
+    input->desk = test_desk;
     input->kind = (uint8_t)setting->kind;
     input->check_field = setting->has_field ? 1 : 0;
     input->spi = 9;
@@ -219,6 +222,21 @@ static void make_received(const struct a_case *a_case, struct input *input)
     }
 }
 
+/* The same input from a desk that owns nothing there, with an SPI that nothing has, and from desks that there are not. */
+static void try_other_desks(const struct a_case *a_case, const struct input *prepared)
+{
+    static struct input input;
+    unsigned due = a_case->answer == 1 || a_case->answer == 2 || a_case->answer == 3 || a_case->answer == 12 ? a_case->answer : 4;
+    input = *prepared;
+    input.desk = 2;
+    expect(both_run(&test_random, &input).answer == due, a_case->name, "desk 2 sees an association of desk 1's");
+    for (unsigned desk = 3; desk < 256; desk++) {
+        input.desk = (uint8_t)desk;
+        expect(both_run(&test_random, &input).answer == (due <= 2 ? due : 19), a_case->name, "19 does not come after 2 and before 3");
+    }
+    passed++;
+}
+
 static void try_case(const struct a_case *a_case)
 {
     static struct input input;
@@ -228,6 +246,9 @@ static void try_case(const struct a_case *a_case)
         make_received(a_case, &input);
     } else {
         input.frame_length = clear_frame(a_case->setting.kind, a_case->setting.has_field, a_case->clear_length, input.frame);
+    }
+    if (a_case->which != CALL_LOAD) {
+        try_other_desks(a_case, &input);
     }
     struct outcome outcome = both_run(&test_random, &input);
     expect(outcome.answer == a_case->answer, a_case->name, "another answer");
@@ -385,7 +406,9 @@ struct set_image {
 
 static const struct set_image set_images[] = {
     {"sets: version 0", 0, 3, 5, 1},
-    {"sets: version 3", 3, 3, 5, 1},
+    {"sets: version 3, without its key part", 3, 3, 5, 1},
+    {"sets: version 4, without its key part", 4, 3, 5, 1},
+    {"sets: version 5", 5, 3, 5, 1},
     {"sets: version 1, TM, channel 0", 1, 3, 0, 0},
     {"sets: version 1, TM, channel 8", 1, 3, 8, 1},
     {"sets: version 2, TM, the empty set", 2, 3, 0, 1},
@@ -678,12 +701,10 @@ static void try_listing(const char *name, const struct setting *setting, size_t 
     passed++;
 }
 
-int main(void)
+static void try_all(void)
 {
     const struct setting new_image = SEND(1, 1, 0);
     const struct setting last_image = SEND(1, 1, LAST_MARK);
-    test_random = random_stream(1, 0);
-    both_prepare("cases");
     try_case_a();
     try_case_b_layout();
     try_cases_c_and_d();
@@ -726,6 +747,15 @@ int main(void)
     try_listing("listing of B", &new_image, 0, "spi service kind direction state window next\n9 1 1 1 2 100 64\n");
     try_listing("listing of K", &last_image, 0, "spi service kind direction state window next\n9 1 1 1 2 100 none\n");
     try_listing("listing of B with an octet more", &new_image, 1, "refused 1\n");
-    printf("cases: %u passed, A to O among them\n", passed);
+}
+
+int main(void)
+{
+    test_random = random_stream(1, 0);
+    both_prepare("cases");
+    for (test_desk = 0; test_desk <= 1; test_desk++) {
+        try_all();
+    }
+    printf("cases: %u passed under desks 0 and 1, A to O among them\n", passed);
     return 0;
 }

@@ -25,8 +25,8 @@ static bool is_cleared;
 
 static void call_secure(void)
 {
-    result = xistalvo_secure(images[0], image_length, numbers[0], NUMBER_COUNT, XISTALVO_TC, XISTALVO_NO_CHECK_FIELD, SPI, clear, clear_length,
-                             secured, sizeof secured);
+    result = xistalvo_secure(images[0], image_length, numbers[0], NUMBER_COUNT, XISTALVO_KEY_OFFICE, XISTALVO_TC, XISTALVO_NO_CHECK_FIELD, SPI, clear,
+                             clear_length, secured, sizeof secured);
     if (is_cleared) {
         xistalvo_clear_stack();
     }
@@ -34,7 +34,7 @@ static void call_secure(void)
 
 static void call_check(void)
 {
-    result = xistalvo_check(images[1], image_length, numbers[1], NUMBER_COUNT, XISTALVO_TC, XISTALVO_NO_CHECK_FIELD, secured,
+    result = xistalvo_check(images[1], image_length, numbers[1], NUMBER_COUNT, XISTALVO_KEY_OFFICE, XISTALVO_TC, XISTALVO_NO_CHECK_FIELD, secured,
                             XISTALVO_LENGTH(result), opened, sizeof opened);
     if (is_cleared) {
         xistalvo_clear_stack();
@@ -43,8 +43,8 @@ static void call_check(void)
 
 static void call_ground_secure(void)
 {
-    result = xistalvo_ground_secure(images[0], image_length, numbers[0], NUMBER_COUNT, XISTALVO_TC, XISTALVO_NO_CHECK_FIELD, SPI, clear,
-                                    clear_length, secured, sizeof secured);
+    result = xistalvo_ground_secure(images[0], image_length, numbers[0], NUMBER_COUNT, XISTALVO_KEY_OFFICE, XISTALVO_TC, XISTALVO_NO_CHECK_FIELD, SPI,
+                                    clear, clear_length, secured, sizeof secured);
     if (is_cleared) {
         xistalvo_clear_ground_stack();
     }
@@ -52,8 +52,8 @@ static void call_ground_secure(void)
 
 static void call_ground_check(void)
 {
-    result = xistalvo_ground_check(images[1], image_length, numbers[1], NUMBER_COUNT, XISTALVO_TC, XISTALVO_NO_CHECK_FIELD, secured,
-                                   XISTALVO_LENGTH(result), opened, sizeof opened);
+    result = xistalvo_ground_check(images[1], image_length, numbers[1], NUMBER_COUNT, XISTALVO_KEY_OFFICE, XISTALVO_TC, XISTALVO_NO_CHECK_FIELD,
+                                   secured, XISTALVO_LENGTH(result), opened, sizeof opened);
     if (is_cleared) {
         xistalvo_clear_ground_stack();
     }
@@ -88,9 +88,9 @@ static void prepare(unsigned version, unsigned service, unsigned key)
     for (unsigned end = 0; end < 2; end++) {
         struct table table = {.version = version, .count = 1, .key_count = 1};
         table.entries[0] = (struct association){.spi = SPI, .service = service, .kind = 1, .direction = end + 1, .state = 2,
-                                                .spacecraft = 27, .channel = 5, .window = 100, .key_id = 7, .mark = 0};
+                                                .spacecraft = 27, .channel = 5, .window = 100, .key_id = 7, .mark = 0, .owner = 1};
         table.keys[0] = (struct key){.id = 7, .state = ACTIVE};
-        key_of(key, version == 3 ? table.keys[0].octets : table.entries[0].key);
+        key_of(key, has_key_part(version) ? table.keys[0].octets : table.entries[0].key);
         image_length = write_image(&table, images[end]);
         xistalvo_load(images[end], image_length, numbers[end], NUMBER_COUNT);
     }
@@ -160,7 +160,7 @@ int main(void)
                  {"ground_check", call_ground_check}};
     size_t before = 0;
     for (size_t i = 0; i < sizeof calls / sizeof calls[0]; i++) {
-        for (unsigned version = 1; version <= 3; version += 2) { /* a key in its body, and one in the key part */
+        for (unsigned version = 1; version <= 4; version += 3) { /* a key in its body, and one in the key part */
             for (unsigned service = 1; service <= 2; service++) {
                 before += try_call(calls[i].name, calls[i].call, version, service);
             }

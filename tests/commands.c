@@ -64,7 +64,8 @@ static void lay_out(const struct setting *setting, struct input *input)
     entry->map = setting->kind == 2 ? 9 : 0;
     entry->window = setting->window;
     entry->mark = setting->last / 64;
-    table.key_count = setting->version == 3 ? 1 : 0; /* with ID 0, which the association names */
+    table.key_count = has_key_part(setting->version) ? 1 : 0; /* with ID 0, which the association names */
+    entry->owner = 1;
     table.keys[0].state = ACTIVE;
     input->which = CALL_COMMAND;
     input->image_length = write_image(&table, input->image);
@@ -231,6 +232,13 @@ static void try_every_form(unsigned version)
                 input.frame[4] = 9;
                 bool is_formed = length >= 3 && field == length - 3 && has_form(tag, field);
                 expect((run(&input).answer != 13) == is_formed, "13 is given for a right form, or not for a wrong one");
+                input.desk = (uint8_t)(1 + field % 2); /* a laboratory's: 19 for the first octet alone */
+                bool is_about_keys = length != 0 && (tag == TAG_ACTIVATION || tag == TAG_DEACTIVATION || tag == TAG_INVENTORY);
+                unsigned answer = run(&input).answer;
+                expect((answer == 19) == is_about_keys, "19 is not given for a key command of a laboratory, or for another");
+                expect(is_about_keys || (answer != 13) == is_formed, "13 is given otherwise to a laboratory than to the key office");
+                input.desk = (uint8_t)(3 + tag % 253);
+                expect(run(&input).answer == 19, "a desk that there is not is answered otherwise than by 19");
             }
         }
     }
@@ -318,7 +326,8 @@ static void try_longest_start(void)
     for (unsigned wrong = 0; wrong < 2; wrong++) {
         lay_out(&setting, &input);
         command[length - 1] ^= (uint8_t)(1 - wrong); /* the last name is wrong the first time */
-        uint64_t result = xistalvo_command(input.image, input.image_length, input.numbers, NUMBER_COUNT, command, length, input.output, 0);
+        uint64_t result = xistalvo_command(input.image, input.image_length, input.numbers, NUMBER_COUNT, XISTALVO_KEY_OFFICE, command, length,
+                                           input.output, 0);
         expect(XISTALVO_ANSWER(result) == (wrong == 0 ? 16 : 0), "the longest start is answered otherwise");
         command[length - 1] ^= (uint8_t)(1 - wrong);
     }
@@ -449,6 +458,7 @@ int main(int argument_count, char **arguments)
     try_way_through();
     try_every_form(1);
     try_every_form(3);
+    try_every_form(4);
     try_every_step();
     for (unsigned window = 0; window <= 65535; window += window < 1100 || window >= 65500 ? 1 : 50) {
         try_window(window);

@@ -3,12 +3,12 @@
  *
  *   differential [--seed S] [--count N] [--from W]
  *
- * An input is one call. Inputs come in worlds: two ends of a link with random associations, and about forty calls on them. The generator of
- * world W is made from the seed and W alone, so --from W takes a run up there. At the end the answers are counted by call, kind and service
- * of the association that the input was made for, TM associations with a set of channels and TM frames with a secondary header apart; those to
- * commands by tag, and what they asked for at limits; what was met of key parts, and broken in them; a long run that misses an answer or a limit
- * that can be reached fails, and a longer one that misses a length of a secondary header, with a check field or without, or changed no frame with
- * both in each bit. */
+ * An input is one call. Inputs come in worlds: two ends of a link with random associations, and about forty calls on them. The generator of world
+ * W is made from the seed and W alone, so --from W takes a run up there. At the end the answers are counted by call, kind and service of the
+ * association that the input was made for, TM associations with a set of channels and TM frames with a secondary header apart; those to commands
+ * by tag, and what they asked for at limits; what was met of key parts and owners, and broken in them; what each desk was answered; a long run
+ * that misses an answer or a limit that can be reached fails, and a longer one that misses a length of a secondary header, with a check field or
+ * without, or changed no frame with both in each bit. */
 #include "support/both.h"
 #include "support/commands.h"
 #include "support/options.h"
@@ -18,7 +18,7 @@
 #include <stdio.h>
 #include <string.h>
 
-enum { CALLS_PER_WORLD = 40, KINDS = 4, SET_ROW = KINDS + 1, STAMP_ROW, ROWS, VERSIONS = 3, ANSWERS = 19 };
+enum { CALLS_PER_WORLD = 40, KINDS = 4, SET_ROW = KINDS + 1, STAMP_ROW, ROWS, VERSIONS = 4, ANSWERS = 20 };
 enum { ENOUGH_FOR_EVERY_ANSWER = 50000, ENOUGH_FOR_EVERY_LIMIT = 150000 };
 enum { MOST_SECONDARY = 64, ENOUGH_FOR_EVERY_LENGTH = 200000 }; /* octets of a secondary header */
 
@@ -27,18 +27,27 @@ enum { LIMITS = 5 };
 static const uint32_t window_limits[LIMITS] = {0, 1, 1024, 1025, 65535};
 static const uint32_t step_limits[LIMITS] = {0, 1, 1024, 1025, 1088};
 
-/* What is broken in an image of version 3 that keeps every other rule. */
+/* What is broken in an image of version 3 or 4 that keeps every other rule; an owner in version 4 alone. */
 enum key_fault {
-    KEYS_65, IDS_EQUAL, IDS_FALL, KEY_STATE, KEY_PART_POSITION, KEY_PART_SPI, KEY_NOT_THERE, KEY_PRE_ACTIVE, KEY_DEACTIVATED, ENTRIES_33, KEY_FAULTS
+    KEYS_65, IDS_EQUAL, IDS_FALL, KEY_STATE, KEY_PART_POSITION, KEY_PART_SPI, KEY_NOT_THERE, KEY_PRE_ACTIVE, KEY_DEACTIVATED, OWNER_0, OWNER_3,
+    OWNER_255, ENTRIES_33, KEY_FAULTS
 };
 static const char *const key_fault_names[KEY_FAULTS] = {
     "65 keys", "equal IDs", "IDs that fall", "a key's state", "position of the key part", "SPI of the last entry", "operational and no key there",
-    "a key pre-active", "a key deactivated", "33 entries"};
+    "a key pre-active", "a key deactivated", "owner 0", "owner 3", "owner 255", "33 entries"};
 
 /* What a key part has that was loaded. */
-enum key_sight { NO_KEYS, ONE_KEY, ALL_KEYS, ID_0, ID_65535, SHARED, STRAY, KEY_SIGHTS };
+enum key_sight { NO_KEYS, ONE_KEY, ALL_KEYS, ID_0, ID_65535, SHARED, STRAY, VERSION_3, VERSION_4, ONE_OWNER, TWO_OWNERS, KEY_SIGHTS };
 static const char *const key_sight_names[KEY_SIGHTS] = {
-    "no key", "one", "64", "ID 0", "ID 65,535", "a key that two operational bodies name", "a body that names no key there is"};
+    "no key", "one", "64", "ID 0", "ID 65,535", "a key that two operational bodies name", "a body that names no key there is",
+    "version 3", "version 4", "all bodies of one owner", "bodies of both"};
+
+/* What calls of each desk come to, and which desks call. SEEN_BY_OFFICE: refused by 4 or 14 where desk 0 is answered otherwise. */
+enum desk_sight { DONE_TO_DESK, UNKNOWN_TO_DESK, SEEN_BY_OFFICE, NOT_A_DESK, NOT_ITS_COMMAND, SHORT_OR_LONG, DESK_SIGHTS };
+static const char *const desk_sight_names[DESK_SIGHTS] = {
+    "done", "refused by 4 or 14", "where desk 0 is not", "refused by 19 for the desk", "for a key command", "of another length than it has"};
+enum { DESKS = 5 };
+static const unsigned desks[DESKS] = {0, 1, 2, 3, 255};
 
 /* The commands that ask for a key's state. */
 enum { ABOUT_KEYS = 4, KEY_STATES = 3, PREFIX = SEQUENCE_LENGTH - 4 };
@@ -63,15 +72,18 @@ struct run {
     uint64_t starts[VERSIONS + 1][SET_ROW + 1][5];   /* version; kind; done, refused by 15, 16, 17, 18 */
     uint64_t key_faults[KEY_FAULTS];                 /* loads refused for it alone */
     uint64_t key_sights[KEY_SIGHTS];                 /* loads done */
-    uint64_t keys_asked[ABOUT_KEYS][KEY_STATES + 1]; /* in version 3: command; state of the key, or none there; that were done or refused by 17, 18 */
+    uint64_t keys_asked[ABOUT_KEYS][KEY_STATES + 1]; /* from version 3 on: command; state of the key, or none; done, 17 or 18 */
     uint64_t in_use;                                 /* deactivations of an active key, refused */
     size_t changed_octet;                            /* of the IV's prefix in the frame that was just made, whose number would do; or PREFIX */
-    uint64_t prefixes[PREFIX];                       /* checks refused by 8 for it, in version 3 */
+    uint64_t prefixes[PREFIX];                       /* checks refused by 8 for it, from version 3 on */
     uint64_t other_ivs;                              /* round trips between versions whose IVs differ, refused by 8 */
     uint64_t windows_held[3][LIMITS];                /* state; window of the body, of starts */
     uint64_t windows_asked[3][LIMITS];               /* state; window of set window */
     uint64_t steps[2][LIMITS];                       /* well below the last number of all, or close to it; step of set number */
     uint64_t raises_set[MOST_STORES + 1];            /* set number, done, by its stores */
+    uint64_t desks[4][DESKS][DESK_SIGHTS];           /* call, desk */
+    uint64_t unseen;                                 /* calls of a desk tried again with all that it does not see made anew */
+    uint64_t blind_trips;                            /* round trips to a desk that does not see the association */
 };
 
 /* The entry that an input is made for. An empty image has none, and gets an association that it does not hold. */
@@ -106,6 +118,7 @@ static struct target any_target(struct run *run, const struct end *end, unsigned
     memset(&target.association, 0, sizeof target.association);
     target.association.service = 1;
     target.association.kind = 1;
+    target.association.owner = 1;
     for (unsigned tries = 0; target.is_held && tries < 8; tries++) {
         target.entry = random_below(&run->random, (uint32_t)table.count);
         target.association = table.entries[target.entry];
@@ -160,7 +173,7 @@ static void strain_field(struct random *random, struct input *input)
         return;
     }
     struct association *entry = &table.entries[random_below(random, (uint32_t)table.count)];
-    switch (random_below(random, 12)) {
+    switch (random_below(random, 13)) {
     case 0: entry->service = RANDOM_OF(random, 0, 3, 255); break;
     case 1: entry->kind = RANDOM_OF(random, 0, 1, 2, 3, 4, 5, 255); break;
     case 2: entry->direction = RANDOM_OF(random, 0, 1, 2, 3, 255); break;
@@ -172,6 +185,7 @@ static void strain_field(struct random *random, struct input *input)
     case 8: entry->mask[5] = (uint8_t)RANDOM_OF(random, 0, 1, 128, 255); break;
     case 9: entry->mark = RANDOM_OF(random, (1u << 26) - 1, 1u << 26, (1u << 26) + 1, UINT32_MAX); break;
     case 10: entry->key_id = RANDOM_OF(random, 0, 1, 65534, 65535); break;
+    case 11: entry->owner = RANDOM_OF(random, 0, 1, 2, 3, 255); break;
     default: entry->spi = RANDOM_OF(random, 0, 1, 65534, 65535); break;
     }
     write_image(&table, input->image);
@@ -180,7 +194,7 @@ static void strain_field(struct random *random, struct input *input)
 /* An octet of the contents is changed by one: an SPI equal to its neighbour, a position beside its body. */
 static void strain_contents(struct random *random, struct input *input)
 {
-    uint32_t contents = 4u * input->image[1] + (input->image[0] == 3 ? 4 : 0);
+    uint32_t contents = 4u * input->image[1] + (has_key_part(input->image[0]) ? 4 : 0);
     if (contents != 0 && contents + 2 <= input->image_length) {
         input->image[2 + random_below(random, contents)] += (uint8_t)RANDOM_OF(random, 1, 255);
     }
@@ -209,13 +223,13 @@ static enum key_fault lay_out_33(struct input *input)
         put_entry(image, i, (unsigned)i + 1, body_position(table.version, COUNT, i));
         memcpy(image + body_position(table.version, COUNT, i), input->image + first, body);
     }
-    if (table.version == 3) {
+    if (has_key_part(table.version)) {
         put_entry(image, COUNT, 65535, end_33);
     }
     memcpy(image + end_33, input->image + end, input->image_length - end); /* the key part, if there is one */
     input->image_length += end_33 - end;
     memcpy(input->image, image, input->image_length);
-    return table.version == 3 ? ENTRIES_33 : KEY_FAULTS;
+    return has_key_part(table.version) ? ENTRIES_33 : KEY_FAULTS;
 }
 
 /* An image that would be right if 65 keys were allowed. */
@@ -232,11 +246,11 @@ static void lay_out_65(struct table *table, struct input *input)
         table->entries[i].key_id = STEP * (unsigned)i;
     }
     input->image_length = write_image(table, input->image) + STORED;
-    uint8_t *last = input->image + key_position(table->count, MOST_KEYS);
+    uint8_t *last = input->image + key_position(table->version, table->count, MOST_KEYS);
     memcpy(last, last - STORED, STORED);
     last[0] = (uint8_t)(STEP * MOST_KEYS >> 8);
     last[1] = (uint8_t)(STEP * MOST_KEYS & 0xFF);
-    input->image[key_position(table->count, 0) - 1] = MOST_KEYS + 1;
+    input->image[key_position(table->version, table->count, 0) - 1] = MOST_KEYS + 1;
 }
 
 /* Gives a key and the IDs of two neighbours a state or an order that breaks a rule; an operational body, a key that does. */
@@ -281,13 +295,13 @@ static bool strain_key(struct random *random, struct table *table, enum key_faul
     return true;
 }
 
-/* Breaks one rule of version 3, or none where the image does not lend itself to it. */
+/* Breaks one rule of version 3 or 4, or none where the image does not lend itself to it. */
 static enum key_fault break_keys(struct random *random, struct input *input)
 {
     struct table table;
     enum key_fault fault = (enum key_fault)random_below(random, ENTRIES_33);
     bool is_broken = true;
-    if (!read_image(input->image, input->image_length, &table) || table.version != 3) {
+    if (!read_image(input->image, input->image_length, &table) || !has_key_part(table.version)) {
         return KEY_FAULTS;
     }
     size_t last = 2 + 4 * table.count;
@@ -301,6 +315,12 @@ static enum key_fault break_keys(struct random *random, struct input *input)
     case KEY_PART_POSITION:
         input->image[last + 2 + random_below(random, 2)] += (uint8_t)RANDOM_OF(random, 1, 255);
         return fault;
+    case OWNER_0: case OWNER_3: case OWNER_255:
+        is_broken = table.version == 4 && table.count != 0;
+        if (is_broken) {
+            table.entries[random_below(random, (uint32_t)table.count)].owner = fault == OWNER_0 ? 0 : fault == OWNER_3 ? 3 : 255;
+        }
+        break;
     case KEY_NOT_THERE: case KEY_PRE_ACTIVE: case KEY_DEACTIVATED:
         is_broken = table.count != 0 && strain_named_key(random, &table, fault);
         break;
@@ -312,10 +332,10 @@ static enum key_fault break_keys(struct random *random, struct input *input)
     return is_broken ? fault : KEY_FAULTS;
 }
 
-/* Gives what was broken, where it is a rule of version 3 and no other. */
+/* Gives what was broken, where it is a rule of version 3 or 4 and no other. */
 static enum key_fault break_image(struct random *random, struct input *input)
 {
-    if (input->image_length != 0 && input->image[0] == 3 && random_percent(random, 40)) {
+    if (input->image_length != 0 && has_key_part(input->image[0]) && random_percent(random, 40)) {
         return break_keys(random, input);
     }
     switch (random_below(random, 8)) {
@@ -333,14 +353,14 @@ static enum key_fault break_image(struct random *random, struct input *input)
         input->image_length -= random_between(random, 1, (uint32_t)input->image_length);
         break;
     case 5: /* too long */
-        input->image_length += RANDOM_OF(random, 1, 4, 22, 26, 35, 52, 56);
+        input->image_length += RANDOM_OF(random, 1, 4, 22, 23, 26, 27, 35, 52, 56);
         break;
     case 6:
         return lay_out_33(input);
     default: /* version, count, or the count of keys */
-        input->image[random_below(random, 2)] = (uint8_t)RANDOM_OF(random, 0, 1, 2, 3, 4, 31, 32, 33, 255);
-        if (random_percent(random, 50) && input->image[0] == 3 && input->image[1] <= MOST_ENTRIES) {
-            input->image[key_position(input->image[1], 0) - 1] += (uint8_t)RANDOM_OF(random, 1, 255);
+        input->image[random_below(random, 2)] = (uint8_t)RANDOM_OF(random, 0, 1, 2, 3, 4, 5, 31, 32, 33, 255);
+        if (random_percent(random, 50) && has_key_part(input->image[0]) && input->image[1] <= MOST_ENTRIES) {
+            input->image[key_position(input->image[0], input->image[1], 0) - 1] += (uint8_t)RANDOM_OF(random, 1, 255);
         }
         break;
     }
@@ -520,6 +540,9 @@ static void break_rest(struct random *random, struct input *input)
     if (random_percent(random, 3)) {
         input->check_field = input->check_field != 0 ? 0 : 1;
     }
+    if (random_percent(random, 2)) {
+        input->desk = (uint8_t)desks[random_below(random, DESKS)];
+    }
 }
 
 /* ---- running ---- */
@@ -574,12 +597,12 @@ static void count_limits(struct run *run, const struct input *input, const struc
     }
 }
 
-/* In version 3, the state of the key that the command asks for, where the answer turns on it. */
+/* From version 3 on, the state of the key that the command asks for, where the answer turns on it. */
 static void count_key(struct run *run, const struct input *before, const struct target *target, const struct outcome *outcome)
 {
     struct table table;
     unsigned tag = before->frame_length < 5 ? 0 : before->frame[0];
-    if (!read_image(before->image, before->image_length, &table) || table.version != 3
+    if (!read_image(before->image, before->image_length, &table) || !has_key_part(table.version)
         || (outcome->answer != 0 && outcome->answer != 17 && outcome->answer != 18)) {
         return;
     }
@@ -594,6 +617,43 @@ static void count_key(struct run *run, const struct input *before, const struct 
             run->in_use += tag == TAG_DEACTIVATION && outcome->answer == 18 && table.keys[named].state == ACTIVE;
         }
     }
+}
+
+/* What the reading answers to the key office's desk. */
+static unsigned answer_to_office(const struct input *input)
+{
+    static struct effect effect;
+    const struct call call = {input->image, input->image_length, input->numbers, input->numbers_length, KEY_OFFICE, input->kind,
+                              input->check_field != 0, input->spi, input->frame, input->frame_length, input->output_length};
+    if (input->which == CALL_SECURE) {
+        reading_secure(&call, &effect);
+    } else if (input->which == CALL_CHECK) {
+        reading_check(&call, &effect);
+    } else {
+        reading_command(&call, &effect);
+    }
+    return effect.answer;
+}
+
+static void count_desk(struct run *run, const struct input *before, const struct outcome *outcome)
+{
+    size_t desk = 0;
+    while (desk < DESKS && desks[desk] != before->desk) {
+        desk++;
+    }
+    if (before->which == CALL_LOAD || desk == DESKS) {
+        return;
+    }
+    uint64_t *sights = run->desks[before->which][desk];
+    bool is_unknown = outcome->answer == 4 || outcome->answer == 14;
+    unsigned tag = before->which == CALL_COMMAND && before->frame_length != 0 ? before->frame[0] : TAG_PING;
+    bool is_about_keys = tag == TAG_ACTIVATION || tag == TAG_DEACTIVATION || tag == TAG_INVENTORY;
+    sights[DONE_TO_DESK] += outcome->answer == 0;
+    sights[UNKNOWN_TO_DESK] += is_unknown;
+    sights[SEEN_BY_OFFICE] += is_unknown && answer_to_office(before) != outcome->answer;
+    sights[NOT_A_DESK] += outcome->answer == 19 && before->desk > 2;
+    sights[NOT_ITS_COMMAND] += outcome->answer == 19 && is_about_keys;
+    sights[SHORT_OR_LONG] += outcome->answer == 19 && is_about_keys && answer_to_office(before) == 13;
 }
 
 static void count_command(struct run *run, const struct input *before, const struct target *target, const struct outcome *outcome)
@@ -662,6 +722,25 @@ static void try_isolation(struct run *run, const struct input *before, const str
     run->inputs++;
 }
 
+/* 'A desk sees only its own associations': the same call on an image in which every association that the desk does not see is another one, with the
+ * same owners, SPIs and key part. */
+static void try_unseen(struct run *run, const struct input *before, const struct outcome *outcome, const struct input *after)
+{
+    static struct input input;
+    if (outcome->answer == 1 || outcome->answer == 2 || before->desk == 0 || before->image[0] != 4) {
+        return;
+    }
+    input = *before;
+    change_unseen(&run->random, &input);
+    struct outcome other = both_run(&run->random, &input);
+    if (other.answer != outcome->answer || other.length != outcome->length || other.stores != outcome->stores
+        || memcmp(input.output, after->output, input.output_length) != 0) {
+        both_fail("an association that the desk does not see changed what came back");
+    }
+    run->unseen++;
+    run->inputs++;
+}
+
 /* The end keeps what a call leaves, except where the input was broken beyond it. */
 static struct outcome run_input(struct run *run, struct input *input, const struct target *target, struct end *end)
 {
@@ -675,8 +754,12 @@ static struct outcome run_input(struct run *run, struct input *input, const stru
     } else {
         count_outcome(run, input, target, &outcome);
     }
+    count_desk(run, &before, &outcome);
     if (input->which != CALL_LOAD && random_percent(&run->random, 5)) {
         try_isolation(run, &before, target, &outcome, input);
+    }
+    if (input->which != CALL_LOAD && random_percent(&run->random, 20)) {
+        try_unseen(run, &before, &outcome, input);
     }
     if (is_own) {
         end_of_input(end, input);
@@ -688,12 +771,13 @@ static struct outcome run_input(struct run *run, struct input *input, const stru
 static void see_keys(struct run *run, const struct input *input)
 {
     struct table table;
-    if (!read_image(input->image, input->image_length, &table) || table.version != 3) {
+    if (!read_image(input->image, input->image_length, &table) || !has_key_part(table.version)) {
         return;
     }
-    bool is_shared = false, is_stray = false;
+    bool is_shared = false, is_stray = false, has_owner[3] = {false, false, false};
     for (size_t i = 0; i < table.count; i++) {
         is_stray = is_stray || find_key(&table, table.entries[i].key_id) == table.key_count;
+        has_owner[table.entries[i].owner] = true;
         for (size_t j = 0; j < i; j++) {
             bool are_serving = table.entries[i].state == 2 && table.entries[j].state == 2;
             is_shared = is_shared || (are_serving && table.entries[i].key_id == table.entries[j].key_id);
@@ -706,6 +790,9 @@ static void see_keys(struct run *run, const struct input *input)
     run->key_sights[ID_65535] += table.key_count != 0 && table.keys[table.key_count - 1].id == 65535;
     run->key_sights[SHARED] += is_shared;
     run->key_sights[STRAY] += is_stray;
+    run->key_sights[table.version == 3 ? VERSION_3 : VERSION_4]++;
+    run->key_sights[ONE_OWNER] += table.version == 4 && has_owner[1] != has_owner[2];
+    run->key_sights[TWO_OWNERS] += has_owner[1] && has_owner[2];
 }
 
 static void try_load(struct run *run, struct end *end)
@@ -727,7 +814,7 @@ static void try_load(struct run *run, struct end *end)
     if (fault < KEY_FAULTS) {
         run->key_faults[fault]++;
         if (outcome.answer != 1) {
-            both_fail("an image that breaks a rule of version 3 loads");
+            both_fail("an image that breaks a rule of version 3 or 4 loads");
         }
     }
 }
@@ -756,7 +843,9 @@ static void try_round_trip(struct run *run, const struct input *sent, const stru
     set_number(other, target->entry, number - random_between(random, 1, number < window ? number : window));
 
     size_t data_length = sent->frame_length - clear.length - clear.trailer;
+    const struct association *there = &table.entries[target->entry];
     input_of_end(&input, CALL_CHECK, other);
+    input.desk = (uint8_t)(random_percent(random, 50) ? KEY_OFFICE : there->owner);
     input.kind = sent->kind;
     input.check_field = sent->check_field != 0 ? (uint8_t)random_between(random, 1, 255) : 0;
     input.frame_length = securing->length;
@@ -764,6 +853,15 @@ static void try_round_trip(struct run *run, const struct input *sent, const stru
     any_output(random, &input, data_length);
     if (input.output_length < data_length) {
         input.output_length = data_length;
+    }
+    if (random_percent(random, 20)) { /* 'demand 2 where each end's desk sees the entry' */
+        static struct input blind;
+        blind = input;
+        blind.desk = (uint8_t)(3 - there->owner);
+        if (run_input(run, &blind, target, other).answer != 4) {
+            both_fail("a frame of another desk's association was not refused by 4");
+        }
+        run->blind_trips++;
     }
     struct outcome checking = run_input(run, &input, target, other);
     if (!is_alike) { /* 'demand 2 then supposes that both ends' images make the IV alike' */
@@ -811,7 +909,7 @@ static void try_flips(struct run *run, const struct input *input)
     }
     changed = *input;
     unsigned answer = both_run(&run->random, &changed).answer;
-    for (size_t bit = 0; answer != 2 && bit < 8 * input->frame_length; bit++) {
+    for (size_t bit = 0; answer != 2 && answer != 19 && bit < 8 * input->frame_length; bit++) {
         changed = *input;
         changed.frame[bit / 8] ^= (uint8_t)(1u << bit % 8);
         answer = both_run(&run->random, &changed).answer;
@@ -833,6 +931,7 @@ static void try_secure(struct run *run, struct world *world, size_t side)
     const struct association *association = &target.association;
 
     input_of_end(&input, CALL_SECURE, end);
+    input.desk = any_desk(random, association);
     make_sending(random, association, &input);
     if (random_percent(random, 3) && target.is_held) { /* the last numbers there are */
         set_number(end, target.entry, UINT32_MAX - random_below(random, 2));
@@ -919,6 +1018,7 @@ static void try_check(struct run *run, struct end *end)
         set_number(end, target.entry, UINT32_MAX - random_below(random, 1100));
     }
     input_of_end(&input, CALL_CHECK, end);
+    input.desk = any_desk(random, association);
     input.kind = (uint8_t)association->kind;
     input.check_field = association->kind == 4 ? 0 : any_field(random, association);
     bool has_field = input.check_field != 0;
@@ -949,7 +1049,7 @@ static void try_check(struct run *run, struct end *end)
 static size_t octets_of_reply(const struct input *input)
 {
     static struct effect effect;
-    const struct call call = {input->image, input->image_length, input->numbers, input->numbers_length, 0, false, 0, input->frame,
+    const struct call call = {input->image, input->image_length, input->numbers, input->numbers_length, input->desk, 0, false, 0, input->frame,
                               input->frame_length, FRAME_ROOM};
     reading_command(&call, &effect);
     return effect.length == 0 ? 1 : effect.length;
@@ -963,11 +1063,12 @@ static void try_command(struct run *run, struct end *own)
     struct end copy = *own;
     struct end *end = random_percent(random, 75) ? &copy : own;
     struct target target = any_target(run, end, random_between(random, 1, 2));
-    unsigned tag = every_tag[random_below(random, TAG_COUNT)];
+    unsigned tag = random_percent(random, 12) ? TAG_START : every_tag[random_below(random, TAG_COUNT)];
     if (target.is_held) {
         suit_command(random, end, target.entry, tag, &target.association);
     }
     input_of_end(&input, CALL_COMMAND, end);
+    input.desk = any_desk(random, &target.association);
     make_command(random, &input, tag, &target.association, end->numbers[target.entry]);
     if (random_percent(random, 15)) {
         break_command(random, &input);
@@ -1049,10 +1150,10 @@ static unsigned print_limits(const char *name, size_t rows, const uint64_t (*cou
 static bool command_can_give(size_t tag, unsigned answer)
 {
     if (tag == TAG_COUNT) {
-        return answer == 1 || answer == 2 || answer == 13;
+        return answer == 1 || answer == 2 || answer == 13 || answer == 19;
     }
     switch (answer) {
-    case 0: case 1: case 2: case 13:
+    case 0: case 1: case 2: case 13: case 19:
         return true;
     case 6:
         return reply_length(every_tag[tag]) != 0 || every_tag[tag] == TAG_INVENTORY;
@@ -1073,12 +1174,12 @@ static unsigned print_starts(const struct run *run)
 {
     static const char *const names[SET_ROW + 1] = {"-", "1", "2", "3", "4", "set"};
     unsigned faults = 0;
-    printf("starts done, refused by 15 and by 16, in version 3 by 17 and 18, by version and kind:");
+    printf("starts done, refused by 15 and by 16, from version 3 on by 17 and 18, by version and kind:");
     for (unsigned version = 1; version <= VERSIONS; version++) {
         for (unsigned row = 1; row <= SET_ROW; row++) {
             bool can_be = row == SET_ROW ? version >= 2 : row != 3 || version == 1;
             const uint64_t *counts = run->starts[version][row];
-            for (unsigned i = 0; can_be && i < (version == 3 ? 5 : 3); i++) {
+            for (unsigned i = 0; can_be && i < (has_key_part(version) ? 5 : 3); i++) {
                 if (i == 0) {
                     printf(" %u/%s", version, names[row]);
                 }
@@ -1103,12 +1204,12 @@ static unsigned print_counts(const char *what, size_t count, const char *const *
     return faults;
 }
 
-/* What was met of keys in version 3. */
+/* What was met of keys from version 3 on, and of owners in version 4. */
 static unsigned print_keys(const struct run *run)
 {
     static const char *const states[KEY_STATES + 1] = {"pre-active", "active", "deactivated", "not there"};
-    unsigned faults = print_counts("loads of version 3 refused for one fault", KEY_FAULTS, key_fault_names, run->key_faults);
-    faults += print_counts("loads of version 3 done", KEY_SIGHTS, key_sight_names, run->key_sights);
+    unsigned faults = print_counts("loads of versions 3 and 4 refused for one fault", KEY_FAULTS, key_fault_names, run->key_faults);
+    faults += print_counts("loads of versions 3 and 4 done", KEY_SIGHTS, key_sight_names, run->key_sights);
     for (size_t i = 0; i < ABOUT_KEYS; i++) {
         char what[64];
         snprintf(what, sizeof what, "keys that %s was about", tag_names[index_of_tag(tags_about_keys[i])]);
@@ -1119,9 +1220,39 @@ static unsigned print_keys(const struct run *run)
     return faults + (run->in_use == 0) + (run->other_ivs == 0);
 }
 
+/* Desk 0 is never refused for what it may see or do; a laboratory's may be; any other number gives 19 alone. */
+static bool desk_can_come_to(unsigned which, unsigned desk, enum desk_sight sight)
+{
+    switch (sight) {
+    case DONE_TO_DESK: case UNKNOWN_TO_DESK: return desk <= 2;
+    case SEEN_BY_OFFICE: return desk == 1 || desk == 2;
+    case NOT_A_DESK: return desk > 2;
+    default: return which == CALL_COMMAND && desk != 0;
+    }
+}
+
+static unsigned print_desks(const struct run *run)
+{
+    static const char *const calls[] = {"load", "secure", "check", "command"};
+    unsigned faults = 0;
+    for (unsigned which = CALL_SECURE; which <= CALL_COMMAND; which++) {
+        for (size_t i = 0; i < DESKS; i++) {
+            char what[32];
+            snprintf(what, sizeof what, "%s of desk %u", calls[which], desks[i]);
+            print_counts(what, DESK_SIGHTS, desk_sight_names, run->desks[which][i]);
+            for (unsigned sight = 0; sight < DESK_SIGHTS; sight++) {
+                faults += (run->desks[which][i][sight] != 0) != desk_can_come_to(which, desks[i], (enum desk_sight)sight);
+            }
+        }
+    }
+    printf("calls tried again with all that the desk does not see made anew: %" PRIu64
+           "; frames refused at a desk that does not see the association: %" PRIu64 "\n", run->unseen, run->blind_trips);
+    return faults + (run->unseen == 0) + (run->blind_trips == 0);
+}
+
 static unsigned print_commands(const struct run *run)
 {
-    static const unsigned answers[] = {0, 1, 2, 13, 14, 15, 16, 17, 18, 6};
+    static const unsigned answers[] = {0, 1, 2, 19, 13, 14, 15, 16, 17, 18, 6};
     unsigned faults = 0;
     printf("%-14s", "command");
     for (size_t i = 0; i < sizeof answers / sizeof answers[0]; i++) {
@@ -1185,9 +1316,9 @@ static bool can_be_reached(unsigned which, unsigned kind, unsigned answer)
     case CALL_LOAD:
         return answer <= 2;
     case CALL_SECURE:
-        return answer <= 4 || answer == 6 || answer == 10 || answer == 11 || (answer == 12 && may_end_in_field);
+        return answer <= 4 || answer == 6 || answer == 10 || answer == 11 || (answer == 12 && may_end_in_field) || answer == 19;
     default:
-        return answer <= 8 || (answer == 12 && may_end_in_field);
+        return answer <= 8 || (answer == 12 && may_end_in_field) || answer == 19;
     }
 }
 
@@ -1251,7 +1382,7 @@ int main(int argument_count, char **arguments)
         run_world(&run, world++);
     }
     unsigned faults = print_tally(&run) + print_commands(&run);
-    unsigned never_asked = print_asked(&run);
+    unsigned never_asked = print_asked(&run) + print_desks(&run);
     unsigned missing = print_secondary(&run, 0) + print_secondary(&run, 1) + (run.stamped_flips == 0);
     faults += run.options.count >= ENOUGH_FOR_EVERY_LENGTH ? missing : 0;
     printf("differential: seed %" PRIu64 ", %" PRIu64 " inputs in %" PRIu64 " worlds, of them %" PRIu64 " cuts, %" PRIu64 " cuts of commands and %" PRIu64

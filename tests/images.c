@@ -11,7 +11,7 @@
 #include <stdio.h>
 #include <string.h>
 
-enum { FIELDS = 16, FIELDS_OF_KEYS = 4, UNTOUCHED = 0x5A };
+enum { FIELDS = 17, FIELDS_OF_KEYS = 4, UNTOUCHED = 0x5A };
 
 struct totals {
     uint64_t laid_out, refused[FIELDS + 1]; /* by the field that was set to a limit or beyond it; the last: none was */
@@ -52,6 +52,7 @@ static void strain(struct random *random, struct table *table, unsigned field)
     case 8: entry->window = RANDOM_OF(random, 0, 1, 1024, 1025, 65535); break;
     case 9: entry->mask[5] = (uint8_t)RANDOM_OF(random, 0, 1, 128, 255); break;
     case 10: entry->mark = RANDOM_OF(random, 0, (1u << 26) - 1, 1u << 26, UINT32_MAX); break;
+    case 11: entry->owner = RANDOM_OF(random, 0, 1, 2, 3, 255); break;
     default: entry->spi = table->entries[random_below(random, (uint32_t)table->count)].spi; break;
     }
 }
@@ -80,6 +81,7 @@ static bool is_untouched(const uint8_t *octets, size_t length)
 struct laid_out {
     struct xistalvo_association associations[MOST_ENTRIES];
     uint16_t key_ids[MOST_ENTRIES];
+    uint8_t owners[MOST_ENTRIES];
     struct xistalvo_key keys[MOST_KEYS];
 };
 
@@ -88,6 +90,7 @@ static void in_terms_of_header(const struct table *table, struct laid_out *laid_
     for (size_t i = 0; i < table->count; i++) {
         laid_out->associations[i] = association_of(&table->entries[i]);
         laid_out->key_ids[i] = (uint16_t)table->entries[i].key_id;
+        laid_out->owners[i] = (uint8_t)table->entries[i].owner;
     }
     for (size_t i = 0; i < table->key_count; i++) {
         laid_out->keys[i].id = (uint16_t)table->keys[i].id;
@@ -101,6 +104,10 @@ static size_t make(const struct table *table, const struct laid_out *laid_out, u
     if (table->version == 3) {
         return xistalvo_make_image_3(laid_out->associations, laid_out->key_ids, table->count, laid_out->keys, table->key_count, image, room);
     }
+    if (table->version == 4) {
+        return xistalvo_make_image_4(laid_out->associations, laid_out->key_ids, laid_out->owners, table->count, laid_out->keys, table->key_count,
+                                     image, room);
+    }
     return xistalvo_make_image(table->version, laid_out->associations, table->count, image, room);
 }
 
@@ -109,6 +116,10 @@ static const char *fault_in(const struct table *table, const struct laid_out *la
     size_t at = 0;
     if (table->version == 3) {
         return xistalvo_image_fault_3(laid_out->associations, laid_out->key_ids, table->count, laid_out->keys, table->key_count, &at);
+    }
+    if (table->version == 4) {
+        return xistalvo_image_fault_4(laid_out->associations, laid_out->key_ids, laid_out->owners, table->count, laid_out->keys,
+                                      table->key_count, &at);
     }
     return xistalvo_image_fault(table->version, laid_out->associations, table->count, &at);
 }
@@ -119,7 +130,7 @@ static void judge_reading(const struct table *table, const struct laid_out *laid
     for (size_t i = 0; i < table->count; i++) {
         struct xistalvo_association read, expected = laid_out->associations[i];
         memset(&read, 0, sizeof read);
-        memcpy(read.key, expected.key, table->version == 3 ? sizeof read.key : 0);
+        memcpy(read.key, expected.key, has_key_part(table->version) ? sizeof read.key : 0);
         xistalvo_read_association(image, i, &read);
         if (read.spi != expected.spi || read.service != expected.service || read.kind != expected.kind || read.direction != expected.direction
             || read.state != expected.state || read.spacecraft != expected.spacecraft || read.channel != expected.channel || read.map != expected.map
@@ -130,6 +141,14 @@ static void judge_reading(const struct table *table, const struct laid_out *laid
         if (xistalvo_place_of_body(image, i) != body_position(table->version, table->count, i)
             || xistalvo_place_of_mark(image, i) != mark_position(table->version, table->count, i)) {
             both_fail("a body or its mark stands elsewhere");
+        }
+        if (has_key_part(table->version) && table->key_count != 0
+            && (xistalvo_place_of_key(image, i % table->key_count) != key_position(table->version, table->count, i % table->key_count)
+                || xistalvo_place_of_key_count(image) != key_position(table->version, table->count, 0) - 1)) {
+            both_fail("a key, or the count of keys, stands elsewhere");
+        }
+        if (xistalvo_owner_of(image, i) != (table->version == 4 ? table->entries[i].owner : 1)) {
+            both_fail("an owner is read otherwise than it was laid out");
         }
     }
 }
@@ -187,10 +206,11 @@ static void try_one(struct options options, uint64_t number, struct totals *tota
 /* 33 associations, each of which breaks no rule, and 65 keys. */
 static void try_too_many(void)
 {
-    enum { LARGEST_BELOW_3 = 1794 };
+    enum { LARGEST_BELOW_3 = 1794, LARGEST_OF_3 = 3079 };
     static struct xistalvo_association associations[MOST_ENTRIES + 1];
     static struct xistalvo_key keys[MOST_KEYS + 1];
     static const uint16_t key_ids[MOST_ENTRIES + 1];
+    static uint8_t owners[MOST_ENTRIES + 1];
     uint8_t image[LARGEST_IMAGE + 56];
     size_t at = 0;
     for (size_t i = 0; i <= MOST_ENTRIES; i++) {
@@ -200,15 +220,22 @@ static void try_too_many(void)
         associations[i].direction = XISTALVO_SEND;
         associations[i].channel = 1;
         associations[i].window = 1;
+        owners[i] = (uint8_t)(1 + i % 2);
     }
     for (size_t i = 0; i <= MOST_KEYS; i++) {
         keys[i].id = (uint16_t)i;
     }
-    if (xistalvo_make_image_3(associations, key_ids, MOST_ENTRIES, keys, MOST_KEYS, image, sizeof image) != LARGEST_IMAGE
+    if (xistalvo_make_image_3(associations, key_ids, MOST_ENTRIES, keys, MOST_KEYS, image, sizeof image) != LARGEST_OF_3
         || xistalvo_make_image_3(associations, key_ids, MOST_ENTRIES, keys, MOST_KEYS + 1, image, sizeof image) != 0
         || xistalvo_make_image_3(associations, key_ids, MOST_ENTRIES + 1, keys, MOST_KEYS, image, sizeof image) != 0
         || xistalvo_make_image(XISTALVO_IMAGE_VERSION_KEYS, associations, 1, image, sizeof image) != 0) {
         both_fail("64 keys are to be laid out, 65 refused, and version 3 without a table of keys");
+    }
+    if (xistalvo_make_image_4(associations, key_ids, owners, MOST_ENTRIES, keys, MOST_KEYS, image, sizeof image) != LARGEST_IMAGE
+        || xistalvo_make_image_4(associations, key_ids, owners, MOST_ENTRIES, keys, MOST_KEYS + 1, image, sizeof image) != 0
+        || xistalvo_make_image_4(associations, key_ids, owners, MOST_ENTRIES + 1, keys, MOST_KEYS, image, sizeof image) != 0
+        || xistalvo_make_image(XISTALVO_IMAGE_VERSION_DESKS, associations, 1, image, sizeof image) != 0) {
+        both_fail("the same of version 4, whose largest image has 3,111 octets");
     }
     if (xistalvo_make_image(XISTALVO_IMAGE_VERSION, associations, MOST_ENTRIES, image, sizeof image) != LARGEST_BELOW_3
         || xistalvo_make_image(XISTALVO_IMAGE_VERSION, associations, MOST_ENTRIES + 1, image, sizeof image) != 0

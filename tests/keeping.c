@@ -3,7 +3,7 @@
  *   keeping [--seed S] [--count N] [--from W]
  *
  * A run is a process that sends frames, or checks frames that were sent, and between them stops, changes and starts its association by
- * management commands, in images of version 3 with another key, and is killed: between any two of its system calls or in the middle
+ * management commands, in images of versions 3 and 4 with another key, and is killed: between any two of its system calls or in the middle
  * of a write, as a number of the run says, or from outside at a random moment; one in ten is left alone. Three ways are tried: a file; memory behind a driver, one octet
  * at a time; and memory that is lent to the module itself. A process that is killed hands its files and its shared memory on, and nothing
  * else. Over all runs of an end, demand 3: each number that went out exceeds those before, and so does each that was released, with the data
@@ -90,7 +90,7 @@ static const char *const paths[] = {"sender", "receiver"}; /* in a folder of the
 static const char *const way_names[] = {"a file", "memory behind a driver", "memory lent itself"};
 
 enum { KEYS = 64, NO_KEY = KEYS };
-enum { MOST_LENGTH = XISTALVO_IMAGE_LENGTH_3(1, KEYS), SPI = 9, MOST_FRAMES = 200, DATA_LENGTH = 8, FRAME_LENGTH = 5 + DATA_LENGTH + 22, RUNS_OF_LINK = 10 };
+enum { MOST_LENGTH = XISTALVO_IMAGE_LENGTH_4(1, KEYS), SPI = 9, MOST_FRAMES = 200, DATA_LENGTH = 8, FRAME_LENGTH = 5 + DATA_LENGTH + 22, RUNS_OF_LINK = 10 };
 
 struct frame {
     uint8_t octets[FRAME_LENGTH];
@@ -98,7 +98,8 @@ struct frame {
 
 struct link {
     enum way way;
-    bool has_keys; /* both images are of version 3 */
+    bool has_keys; /* both images are of version 3 or 4 */
+    uint8_t desk;  /* whose the association is: in version 4 the guest's */
     size_t length;
     uint8_t *memory[2];             /* shared: it outlives a process */
     struct frame sent[MOST_FRAMES]; /* the last ones */
@@ -176,7 +177,9 @@ static void tell(int pipe_end, const void *octets, size_t length)
 static void manage(struct link *link, unsigned end, struct kept *kept, const uint8_t *command, size_t length, unsigned answer)
 {
     uint8_t none[1];
-    uint64_t result = xistalvo_command(lent(link, end, kept), link->length, kept->numbers, XISTALVO_NUMBERS, command, length, none, 0);
+    bool is_about_keys = command[0] == XISTALVO_TAG_ACTIVATION || command[0] == XISTALVO_TAG_DEACTIVATION;
+    uint64_t result = xistalvo_command(lent(link, end, kept), link->length, kept->numbers, XISTALVO_NUMBERS,
+                                       is_about_keys ? XISTALVO_KEY_OFFICE : link->desk, command, length, none, 0);
     if (XISTALVO_ANSWER(result) != answer) {
         both_fail("a command is answered otherwise than the state that was kept says");
     }
@@ -217,7 +220,8 @@ static uint16_t id_of(size_t j) { return (uint16_t)(0x0101 * j + 7); }
 
 static uint8_t state_of(struct link *link, unsigned end, struct kept *kept, size_t j)
 {
-    return lent(link, end, kept)[XISTALVO_AT_KEY_3(1, j) + XISTALVO_IN_KEY_STATE];
+    const uint8_t *image = lent(link, end, kept);
+    return image[xistalvo_place_of_key(image, j) + XISTALVO_IN_KEY_STATE];
 }
 
 /* Any key in this state, but for that of one ID, or NO_KEY. */
@@ -318,7 +322,7 @@ static void send_frames(struct link *link, int pipe_end)
             manage_association(link, 0, &kept);
         }
         random_octets(&watch.random, clear + 5, DATA_LENGTH);
-        uint64_t result = xistalvo_secure(lent(link, 0, &kept), link->length, kept.numbers, XISTALVO_NUMBERS, XISTALVO_TC,
+        uint64_t result = xistalvo_secure(lent(link, 0, &kept), link->length, kept.numbers, XISTALVO_NUMBERS, link->desk, XISTALVO_TC,
                                           XISTALVO_NO_CHECK_FIELD, SPI, clear, sizeof clear, output, sizeof output);
         if (XISTALVO_ANSWER(result) == XISTALVO_DONE && keep(link, 0, &kept)) {
             tell(pipe_end, output, sizeof output);
@@ -342,7 +346,7 @@ static void check_frames(struct link *link, int pipe_end)
             manage_association(link, 1, &kept);
         }
         memcpy(&released, &link->sent[i], sizeof released);
-        uint64_t result = xistalvo_check(lent(link, 1, &kept), link->length, kept.numbers, XISTALVO_NUMBERS, XISTALVO_TC,
+        uint64_t result = xistalvo_check(lent(link, 1, &kept), link->length, kept.numbers, XISTALVO_NUMBERS, link->desk, XISTALVO_TC,
                                          XISTALVO_NO_CHECK_FIELD, link->sent[i].octets, FRAME_LENGTH, released.octets + 11, DATA_LENGTH);
         if (XISTALVO_ANSWER(result) == XISTALVO_DONE && keep(link, 1, &kept)) {
             tell(pipe_end, &released, sizeof released);
@@ -438,14 +442,14 @@ static void make_keys(struct xistalvo_key keys[KEYS])
     }
 }
 
-/* A new link, of version 1 or 3. Its marks are a little below a multiple of 256, where a raise changes another octet than the last. */
+/* A new link, of version 1, 3 or 4. Its marks are a little below a multiple of 256, where a raise changes another octet than the last. */
 static void make_link(struct link *link, struct random *random)
 {
     uint32_t mark = 256 * random_between(random, 1, 1000) - random_between(random, 1, 4);
     struct xistalvo_key keys[KEYS];
     const uint16_t key_id = id_of(0);
     link->has_keys = random_percent(random, 60);
-    link->length = length_of_link = link->has_keys ? MOST_LENGTH : XISTALVO_IMAGE_LENGTH(1);
+    link->desk = link->has_keys && random_percent(random, 50) ? XISTALVO_DESK_2 : XISTALVO_DESK_1;
     link->sent_count = 0;
     link->last_sent = 0;
     link->last_released = 0;
@@ -453,9 +457,15 @@ static void make_link(struct link *link, struct random *random)
     for (unsigned end = 0; end < 2; end++) {
         struct xistalvo_association association = {SPI, XISTALVO_AUTHENTICATION, XISTALVO_TC, (uint8_t)(end + 1), XISTALVO_OPERATIONAL,
                                                    27, 5, 0, 1024, {0}, {1, 2, 3}, mark};
-        size_t made = link->has_keys ? xistalvo_make_image_3(&association, &key_id, 1, keys, KEYS, link->memory[end], MOST_LENGTH)
-                                     : xistalvo_make_image(XISTALVO_IMAGE_VERSION, &association, 1, link->memory[end], MOST_LENGTH);
-        if (made != link->length || !write_new_file(paths[end], link->memory[end], made)) {
+        if (link->desk == XISTALVO_DESK_2) {
+            link->length = xistalvo_make_image_4(&association, &key_id, &link->desk, 1, keys, KEYS, link->memory[end], MOST_LENGTH);
+        } else if (link->has_keys) {
+            link->length = xistalvo_make_image_3(&association, &key_id, 1, keys, KEYS, link->memory[end], MOST_LENGTH);
+        } else {
+            link->length = xistalvo_make_image(XISTALVO_IMAGE_VERSION, &association, 1, link->memory[end], MOST_LENGTH);
+        }
+        length_of_link = link->length;
+        if (link->length == 0 || !write_new_file(paths[end], link->memory[end], link->length)) {
             both_fail("an image cannot be made");
         }
     }

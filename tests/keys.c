@@ -1,7 +1,7 @@
-/* Keys in one place (document 02, request 9) through the C interface, with figures of its own: images of version 3 octet by octet; the IV and its
- * prefix; the sentences on keys as a table over every state of key and association; inventories of every range into outputs of every length; power
- * that fails after each store of a rekey, an activation and a deactivation; a shared key changed in one place. Each call is also compared with the
- * independent reading (support/both.h).
+/* Keys in one place (document 02, request 9) through the C interface, with figures of its own: images of version 3 octet by octet, and the counts
+ * of versions 3 and 4; the IV and its prefix, in version 4 too; the sentences on keys as a table over every state of key and association;
+ * inventories of every range into outputs of every length; power that fails after each store of a rekey, an activation and a deactivation; a
+ * shared key changed in one place. Each call is also compared with the independent reading (support/both.h).
  *
  *   keys [--seed S] [--count N] [--from W] */
 #include "support/both.h"
@@ -122,23 +122,25 @@ static void try_image(size_t number)
 }
 
 /* The smallest image, cut and lengthened. */
-static void try_smallest(void)
+static void try_smallest(unsigned version)
 {
     static struct input input;
     for (size_t length = 0; length <= 12; length++) {
         memset(&input, 0, sizeof input);
         input.which = CALL_LOAD;
         octets_of("03 00 FFFF 0006 00", input.image);
+        input.image[0] = (uint8_t)version;
         input.image_length = length;
         input.numbers_length = NUMBER_COUNT;
         expect(run(&input).answer == (length == 7 ? 0 : 1), "another image than one of 7 octets is the smallest");
     }
 }
 
-/* All counts of keys with no association, one and 32. The largest image has 3,079 octets, and the sixty-fifth key is one too many, for a load; a
- * cut tests no such rule (xistalvo.h). */
-static void try_every_count(void)
+/* All counts of keys with no association, one and 32. The largest image has 3,079 or 3,111 octets, and the sixty-fifth key is one too many, for a
+ * load; a cut tests no such rule (xistalvo.h). */
+static void try_every_count(unsigned version)
 {
+    size_t of_body = version == 3 ? 26 : 27; /* and its entry of the contents */
     static const size_t counts[] = {0, 1, 32};
     static struct input input;
     for (size_t c = 0; c < 3; c++) {
@@ -146,11 +148,11 @@ static void try_every_count(void)
             struct table table;
             memset(&table, 0, sizeof table);
             memset(&input, 0, sizeof input);
-            table.version = 3;
+            table.version = version;
             table.count = counts[c];
             table.key_count = keys > MOST_KEYS ? MOST_KEYS : keys;
             for (size_t i = 0; i < table.count; i++) {
-                struct association entry = {(unsigned)i + 1, 2, 1, 1, keys == 0 ? 1 : 2, 27, 5, false, 0, 100, {0}, true, 0, {0}, 7};
+                struct association entry = {(unsigned)i + 1, 2, 1, 1, keys == 0 ? 1 : 2, 27, 5, false, 0, 100, {0}, true, 0, {0}, 7, 1};
                 entry.key_id = 1000 * (unsigned)(keys / 2);
                 table.entries[i] = entry;
             }
@@ -164,10 +166,10 @@ static void try_every_count(void)
                 uint8_t *last = input.image + input.image_length;
                 octets_of("FA00 01", last); /* 64,000 */
                 input.image_length += 35;
-                input.image[6 + 26 * table.count] = MOST_KEYS + 1;
+                input.image[6 + of_body * table.count] = MOST_KEYS + 1;
             }
             input.numbers_length = NUMBER_COUNT;
-            expect(input.image_length == 7 + 26 * table.count + 35 * keys, "an image has another length");
+            expect(input.image_length == 7 + of_body * table.count + 35 * keys, "an image has another length");
             expect(run(&input).answer == (keys > MOST_KEYS ? 1 : 0), "0 to 64 keys are to load, and 65 are not");
             uint32_t made = both_raise(&test_random, input.image, input.image_length, MOST_ENTRIES - 1, 64 * 9, 5);
             expect(made == (table.count == MOST_ENTRIES ? 2 : 0), "a cut asks for no more than that the length fits the counts");
@@ -189,7 +191,8 @@ static void lay_out_one(struct input *input, enum which_call which, unsigned ver
     memset(input, 0, sizeof *input);
     table.version = version;
     table.count = 1;
-    struct association entry = {spi, service, 1, direction, 2, 27, 5, false, 0, 100, {255, 255, 255, 255, 255, 0}, version == 3, 7, {0}, 0};
+    struct association entry = {spi, service, 1, direction, 2, 27, 5, false, 0, 100, {255, 255, 255, 255, 255, 0}, has_key_part(version), 7, {0},
+                                0, 1};
     memset(entry.key, 0x77, KEY_LENGTH);
     table.entries[0] = entry;
     table.key_count = 2;
@@ -226,7 +229,7 @@ static void try_sent_iv(void)
     uint8_t expected[64];
     for (size_t i = 0; i < sizeof sent / sizeof sent[0]; i++) {
         for (unsigned service = 1; service <= 2; service++) {
-            for (unsigned version = 1; version <= 3; version++) {
+            for (unsigned version = 1; version <= 4; version++) {
                 const char *head = service == 1 ? sent[i].of_service_1 : version < 3 ? sent[i].of_service_2 : sent[i].of_version_3;
                 lay_out_one(&input, CALL_SECURE, version, service, SENDS, sent[i].spi);
                 input.frame_length = sizeof frame_of_c;
@@ -253,30 +256,30 @@ static unsigned answer_to(unsigned version, unsigned service, const uint8_t iv[S
 }
 
 /* Each octet in front of the number with each bit changed, a right MAC and a wrong one; and the IV of the other versions. */
-static void try_prefix(void)
+static void try_prefix(unsigned version)
 {
     uint8_t iv[SEQUENCE_LENGTH], changed[SEQUENCE_LENGTH];
     octets_of("00001234 00000000 00000040", iv);
-    expect(answer_to(3, 2, iv, false) == 0 && answer_to(3, 2, iv, true) == 7, "a right IV is not taken, or with a wrong MAC");
+    expect(answer_to(version, 2, iv, false) == 0 && answer_to(version, 2, iv, true) == 7, "a right IV is not taken, or with a wrong MAC");
     for (unsigned bit = 0; bit < 64; bit++) {
         memcpy(changed, iv, sizeof iv);
         changed[bit / 8] ^= (uint8_t)(1u << bit % 8);
-        expect(answer_to(3, 2, changed, false) == 8, "another prefix is not refused by 8");
-        expect(answer_to(3, 2, changed, true) == 7, "another prefix with a wrong MAC is not refused by 7");
+        expect(answer_to(version, 2, changed, false) == 8, "another prefix is not refused by 8");
+        expect(answer_to(version, 2, changed, true) == 7, "another prefix with a wrong MAC is not refused by 7");
     }
     expect(answer_to(2, 2, iv, false) == 8 && answer_to(1, 2, iv, false) == 8, "an IV of version 3 is taken below it");
     octets_of("00000000 00000000 00000040", iv);
-    expect(answer_to(3, 2, iv, false) == 8, "an IV of version 2 is taken in version 3");
+    expect(answer_to(version, 2, iv, false) == 8, "an IV of version 2 is taken in version 3");
     expect(answer_to(2, 2, iv, false) == 0 && answer_to(1, 2, iv, false) == 0, "an IV of versions 1 and 2 is not taken there");
-    expect(answer_to(3, 1, iv, false) == 0 && answer_to(2, 1, iv, false) == 0, "a number of service 1 is not the same in all versions");
+    expect(answer_to(version, 1, iv, false) == 0 && answer_to(2, 1, iv, false) == 0, "a number of service 1 is not the same in all versions");
     octets_of("00001234 00000000 0000003F", iv);
-    expect(answer_to(3, 2, iv, false) == 8, "the last number is taken again");
+    expect(answer_to(version, 2, iv, false) == 8, "the last number is taken again");
     octets_of("00001234 00000000 000000A3", iv);
-    expect(answer_to(3, 2, iv, false) == 0, "the end of the window is not taken");
+    expect(answer_to(version, 2, iv, false) == 0, "the end of the window is not taken");
     octets_of("00001234 00000000 000000A4", iv);
-    expect(answer_to(3, 2, iv, false) == 8, "a number beyond the window is taken");
+    expect(answer_to(version, 2, iv, false) == 8, "a number beyond the window is taken");
     octets_of("00001234 00000001 00000040", iv);
-    expect(answer_to(3, 2, iv, false) == 8, "a number above 4,294,967,295 is taken");
+    expect(answer_to(version, 2, iv, false) == 8, "a number above 4,294,967,295 is taken");
 }
 
 /* ---- commands ---- */
@@ -297,8 +300,8 @@ static void lay_out_pair(struct input *input, unsigned state, unsigned window, u
     memset(input, 0, sizeof *input);
     table.version = 3;
     table.count = 2;
-    struct association first = {9, 2, 1, 1, state, 27, 5, false, 0, window, {0}, true, 0x0201, {0}, 3};
-    struct association second = {20, 1, 1, 2, other_state, 27, 6, false, 0, 100, {0}, true, other_key, {0}, 0};
+    struct association first = {9, 2, 1, 1, state, 27, 5, false, 0, window, {0}, true, 0x0201, {0}, 3, 1};
+    struct association second = {20, 1, 1, 2, other_state, 27, 6, false, 0, 100, {0}, true, other_key, {0}, 0, 1};
     table.entries[0] = first;
     table.entries[1] = second;
     const struct key keys[] = {
@@ -636,10 +639,12 @@ int main(int argument_count, char **arguments)
             both_at(options.seed, options.from + i, number);
             try_image(number);
         }
-        try_smallest();
-        try_every_count();
+        for (unsigned version = 3; version <= 4; version++) {
+            try_smallest(version);
+            try_every_count(version);
+            try_prefix(version);
+        }
         try_sent_iv();
-        try_prefix();
         for (size_t number = 0; number < sizeof commands / sizeof commands[0]; number++) {
             both_at(options.seed, options.from + i, number);
             try_command(number);

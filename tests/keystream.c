@@ -138,8 +138,8 @@ static void run_call(void)
 {
     frame_of_caller = __builtin_frame_address(0);
     __asm__ volatile("int3");
-    result = xistalvo_check(image, image_length, numbers, NUMBER_COUNT, (uint8_t)association.kind, XISTALVO_NO_CHECK_FIELD, frame,
-                            frame_length, output, output_length);
+    result = xistalvo_check(image, image_length, numbers, NUMBER_COUNT, XISTALVO_KEY_OFFICE, (uint8_t)association.kind, XISTALVO_NO_CHECK_FIELD,
+                            frame, frame_length, output, output_length);
     __asm__ volatile("int3");
 }
 

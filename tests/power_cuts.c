@@ -1,6 +1,6 @@
 /* Random runs of loads, sendings, checks and management commands at both ends of a link, with power failing after any stored octet, and demand 3
- * of document 01, as requests 5 and 9 of document 02 have it, held to what really went out and was really released, association by association, over
- * all channels of one together:
+ * of document 01, as requests 5, 9 and 10 of document 02 have it, held to what really went out and was really released, association by
+ * association, over all channels of one together:
  *
  *   no number goes out twice, and none is released twice;
  *   numbers only rise, through stop, expire, rekey, start, windows and set number;
@@ -9,7 +9,8 @@
  * and over all associations together, of service 2: no IV goes out twice under the same key octets, however often associations are rekeyed.
  *
  * And of demand 2: what one end secures the other releases where its number is in the window, and refuses by 8 where it is not, or where the
- * ends make the IV otherwise; by 7 where the ends hold other keys; and by 4 where the association is not operational there.
+ * ends make the IV otherwise; by 7 where the ends hold other keys; and by 4 where the association is not operational there, or is another desk's.
+ * Calls come from every desk, and from desks that there are not, which are refused by 19.
  *
  *   power_cuts [--seed S] [--count N] [--from W]
  *
@@ -78,6 +79,8 @@ struct run {
     uint64_t changed_keys;                                 /* frames sent under another key than the association's frame before */
     uint64_t half_ids;                                     /* key IDs of which a cut left one octet new and one old */
     uint64_t other_keys, other_ivs;                        /* frames refused because the ends held other keys, or make the IV otherwise */
+    uint64_t by_desk[3], cut_by_desk[3];                   /* calls done, and cut */
+    uint64_t unseen, no_desks, not_theirs;                 /* refused: another's SPI; by 19, for the desk, or for a command about keys */
 };
 
 static void association_of(const struct run *run, size_t side, size_t entry, struct association *association)
@@ -183,12 +186,31 @@ static uint32_t number_in(const uint8_t *frame, size_t length, const struct asso
     return (uint32_t)frame[end - 4] << 24 | (uint32_t)frame[end - 3] << 16 | (uint32_t)frame[end - 2] << 8 | frame[end - 1];
 }
 
+/* What the prepared call, which is about this association, is refused by for its desk alone; 0 where the desk sees the association. */
+static unsigned answer_to_desk(struct run *run, const struct association *association)
+{
+    unsigned answer = run->input.desk > 2 ? 19 : run->input.desk != 0 && run->input.desk != association->owner ? 4 : 0;
+    run->no_desks += answer == 19;
+    run->unseen += answer == 4;
+    return answer;
+}
+
+/* Most calls come from a desk that may make them, so that most of a run is spent on what is done. */
+static uint8_t desk_for(struct run *run, const struct association *association, bool is_about_keys)
+{
+    if (random_percent(&run->random, 10)) {
+        return any_desk(&run->random, association);
+    }
+    return (uint8_t)(is_about_keys || random_percent(&run->random, 40) ? KEY_OFFICE : association->owner);
+}
+
 /* Prepares a sending of one to twenty octets of data. */
 static void prepare_sending(struct run *run, size_t side, size_t entry, struct association *association)
 {
     struct input *input = &run->input;
     association_of(run, side, entry, association);
     input_of_end(input, CALL_SECURE, &run->world.ends[side]);
+    input->desk = desk_for(run, association, false);
     input->kind = (uint8_t)association->kind;
     input->spi = (uint16_t)association->spi;
     input->check_field = ends_in_field(association) ? 1 : 0;
@@ -217,14 +239,16 @@ static void send(struct run *run, size_t side, size_t entry)
     prepare_sending(run, side, entry, &association);
     bool is_last = run->input.numbers[entry] == UINT32_MAX;
     struct outcome outcome = both_run(&run->random, &run->input);
-    if (outcome.answer != (association.state != 2 ? 4 : is_last ? 10 : 0)) {
-        both_fail("demand 2: a frame was not secured, or a number was left where none is, or the association is not operational");
+    unsigned due = answer_to_desk(run, &association);
+    if (outcome.answer != (due != 0 ? due : association.state != 2 ? 4 : is_last ? 10 : 0)) {
+        both_fail("demand 2: a frame was not secured, or a number was left where none is, or the association is not operational or another desk's");
     }
     if (outcome.answer != 0) {
         run->refused++;
         return;
     }
     end_of_input(&run->world.ends[side], &run->input);
+    run->by_desk[run->input.desk]++;
     note_sent(run, &run->histories[entry], number_in(run->input.output, outcome.length, &association),
               header_in(run->input.output, outcome.length, &association).channel);
     if (association.service == 2) {
@@ -243,6 +267,7 @@ static const struct sent_frame *prepare_check(struct run *run, size_t side, size
     const struct sent_frame *frame = &history->frames[(history->frame_count - 1 - back) % FRAMES_KEPT];
     association_of(run, side, entry, association);
     input_of_end(input, CALL_CHECK, &run->world.ends[side]);
+    input->desk = desk_for(run, association, false);
     input->kind = (uint8_t)association->kind;
     input->check_field = ends_in_field(association) ? 1 : 0;
     input->frame_length = frame->length;
@@ -255,7 +280,7 @@ static const struct sent_frame *prepare_check(struct run *run, size_t side, size
     return frame;
 }
 
-/* What a frame as it was sent is answered by. */
+/* What a frame as it was sent is answered by, to a desk that sees the association. */
 static unsigned answer_due(struct run *run, const struct sent_frame *frame, const struct association *association, uint32_t last)
 {
     bool is_in_window = last < frame->number && frame->number - last <= association->window;
@@ -282,15 +307,17 @@ static void check(struct run *run, size_t side, size_t entry)
     const struct sent_frame *frame = prepare_check(run, side, entry, &association);
     uint32_t last = run->input.numbers[entry];
     struct outcome outcome = both_run(&run->random, &run->input);
-    if (!run->is_tampered && outcome.answer != answer_due(run, frame, &association, last)) {
+    unsigned due = answer_to_desk(run, &association);
+    if (!run->is_tampered && outcome.answer != (due != 0 ? due : answer_due(run, frame, &association, last))) {
         both_fail("demand 2: a frame as it was sent was not released in the window, or not refused by 8 outside it or for its IV, by 7 for its key "
-                  "or by 4 for its channel");
+                  "or by 4 for its channel or its owner");
     }
     if (outcome.answer != 0) {
         run->refused++;
         return;
     }
     end_of_input(&run->world.ends[side], &run->input);
+    run->by_desk[run->input.desk]++;
     note_released(run, &run->histories[entry], number_in(run->input.frame, run->input.frame_length, &association));
     if (number_in(run->input.frame, run->input.frame_length, &association) != frame->number || outcome.length != frame->data_length
         || memcmp(run->input.output, frame->data, frame->data_length) != 0) {
@@ -300,7 +327,7 @@ static void check(struct run *run, size_t side, size_t entry)
 
 /* ---- commands ---- */
 
-/* The key to rekey to: in version 3 one that is active, by turns any and one that has the octets which the other end uses, if there is one. */
+/* The key to rekey to: from version 3 on one that is active, by turns any and one that has the octets which the other end uses, if there is one. */
 static unsigned key_to_use(struct run *run, size_t side, size_t entry)
 {
     struct association other;
@@ -378,6 +405,7 @@ static void prepare_command(struct run *run, size_t side, size_t entry, struct a
         any_key_named(run, side, association);
         make_command(&run->random, input, every_tag[random_below(&run->random, TAG_COUNT)], association, input->numbers[entry]);
     }
+    input->desk = desk_for(run, association, !names_spi(input->frame[0]));
     input->output_length = SMALL_FRAME;
 }
 
@@ -471,6 +499,24 @@ static void judge_key_command(const struct end *before, const struct end *after,
     }
 }
 
+/* Of a command that is made right: 19 to a desk that there is not, and to a laboratory's about keys; 14 where another desk owns the association. */
+static void judge_desk(struct run *run, size_t side, size_t entry, unsigned answer)
+{
+    struct association association = {.owner = run->input.desk};
+    bool is_about_keys = !names_spi(run->input.frame[0]) && run->input.frame[0] != TAG_PING;
+    if (entry < run->count) {
+        association_of(run, side, entry, &association);
+    }
+    unsigned due = answer_to_desk(run, &association);
+    if (due == 0 && run->input.desk != 0 && is_about_keys) {
+        due = 19;
+        run->not_theirs++;
+    }
+    if ((due != 0) != (answer == 19 || (entry < run->count && answer == 14)) || (due == 19) != (answer == 19)) {
+        both_fail("a command was not refused by 19 or 14 to a desk that may not give it, or was to one that may");
+    }
+}
+
 static void command(struct run *run, size_t side, size_t for_entry)
 {
     struct association association;
@@ -478,11 +524,13 @@ static void command(struct run *run, size_t side, size_t for_entry)
     prepare_command(run, side, for_entry, &association);
     size_t entry = entry_named(run, side);
     struct outcome outcome = both_run(&run->random, &run->input);
+    judge_desk(run, side, entry, outcome.answer);
     if (outcome.answer != 0) {
         run->refused++;
         return;
     }
     end_of_input(&run->world.ends[side], &run->input);
+    run->by_desk[run->input.desk]++;
     run->commands[index_of_tag(run->input.frame[0])]++;
     if (entry < run->count) {
         judge_command(&before, &run->world.ends[side], entry, &run->input);
@@ -566,6 +614,7 @@ static bool cut_call(struct run *run, size_t side, size_t entry)
         run->refused++;
         return false;
     }
+    run->cut_by_desk[run->input.desk]++;
     for (uint32_t j = 0; j <= outcome.stores + 1; j++) {
         try_cut(run, end, entry, j, &whole, outcome.stores);
     }
@@ -628,7 +677,7 @@ static void start_run(struct run *run, uint64_t number)
     table_of(&run->world.ends[1], &other);
     for (size_t i = 0; i < run->count; i++) { /* a body that names no key, or another, takes one that both ends have */
         const uint8_t *own = table.version < 3 ? table.entries[i].key : other.version < 3 ? other.entries[i].key : table.keys[0].octets;
-        bool is_named = table.version == 3 && other.version == 3 && find_key(&table, table.entries[i].key_id) < table.key_count;
+        bool is_named = has_key_part(table.version) && has_key_part(other.version) && find_key(&table, table.entries[i].key_id) < table.key_count;
         memcpy(keys[i], is_named ? table.entries[i].key : own, KEY_LENGTH);
     }
     for (size_t side = 0; side < 2; side++) {
@@ -693,12 +742,20 @@ static void print_commands(const struct run *run)
     printf("frames sent under a key that another association used before: %" PRIu64 ", under another key than the one before: %" PRIu64
            "; refused for a key that the other end does not use: %" PRIu64 ", for an IV that it makes otherwise: %" PRIu64 "\n",
            run->shared, run->changed_keys, run->other_keys, run->other_ivs);
+    printf("calls done and cut, by desk 0, 1, 2: %" PRIu64 " %" PRIu64 ", %" PRIu64 " %" PRIu64 ", %" PRIu64 " %" PRIu64
+           "; calls about another desk's association: %" PRIu64
+           ", from a desk that there is not: %" PRIu64 ", commands about keys from a laboratory: %" PRIu64 "\n",
+           run->by_desk[0], run->cut_by_desk[0], run->by_desk[1], run->cut_by_desk[1], run->by_desk[2], run->cut_by_desk[2], run->unseen,
+           run->no_desks, run->not_theirs);
 }
 
 /* Every command was done, and every one but ping was cut; keys were shared and changed. */
 static bool commands_are_enough(const struct run *run)
 {
-    bool is_enough = run->lifted > 0 && run->odd_windows > 0;
+    bool is_enough = run->lifted > 0 && run->odd_windows > 0 && run->unseen > 0 && run->no_desks > 0 && run->not_theirs > 0;
+    for (size_t desk = 0; desk < 3; desk++) {
+        is_enough = is_enough && run->by_desk[desk] > 0 && run->cut_by_desk[desk] > 0;
+    }
     if (run->options.count >= ENOUGH_FOR_KEYS) {
         is_enough = is_enough && run->half_ids > 0 && run->shared > 0 && run->changed_keys > 0 && run->other_keys > 0 && run->other_ivs > 0;
     }

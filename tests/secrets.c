@@ -39,7 +39,7 @@ static void prepare(unsigned version, unsigned service)
     for (unsigned end = 0; end < 2; end++) {
         struct table table = {.version = version, .count = 1, .key_count = KEYS};
         table.entries[0] = (struct association){.spi = SPI, .service = service, .kind = XISTALVO_TC, .direction = end + 1, .state = 2,
-                                                .spacecraft = 27, .channel = 5, .window = 100, .key_id = 7, .mark = 0};
+                                                .spacecraft = 27, .channel = 5, .window = 100, .key_id = 7, .mark = 0, .owner = 1};
         memset(table.entries[0].key, 0xA5, KEY_LENGTH);
         for (unsigned j = 0; j < KEYS; j++) {
             table.keys[j] = (struct key){.id = 6 + j, .state = ACTIVE};
@@ -66,8 +66,8 @@ static void check(size_t data, size_t before, uint8_t change, uint8_t change_of_
         secured[length - 1] ^= change_of_field;
     }
     hide(secured + before, data + MAC_LENGTH);
-    need((is_on_ground ? xistalvo_ground_check : xistalvo_check)(images[1], image_length, numbers[1], NUMBER_COUNT, XISTALVO_TC, has_field,
-                                                                 secured, length, opened, sizeof opened),
+    need((is_on_ground ? xistalvo_ground_check : xistalvo_check)(images[1], image_length, numbers[1], NUMBER_COUNT, XISTALVO_KEY_OFFICE, XISTALVO_TC,
+                                                                 has_field, secured, length, opened, sizeof opened),
          answer, "check");
     show(secured, length);
     secured[end - 1] ^= change;
@@ -85,8 +85,8 @@ static void round_trip(unsigned service, size_t data)
     if (has_field)
         write_check_field(clear, length);
     hide(clear + HEADER, data);
-    need((is_on_ground ? xistalvo_ground_secure : xistalvo_secure)(images[0], image_length, numbers[0], NUMBER_COUNT, XISTALVO_TC, has_field,
-                                                                   SPI, clear, length, secured, sizeof secured),
+    need((is_on_ground ? xistalvo_ground_secure : xistalvo_secure)(images[0], image_length, numbers[0], NUMBER_COUNT, XISTALVO_KEY_OFFICE,
+                                                                   XISTALVO_TC, has_field, SPI, clear, length, secured, sizeof secured),
          XISTALVO_DONE, "sending");
     show(secured, before + data + MAC_LENGTH + FIELD);
     if (has_field)
@@ -99,7 +99,8 @@ static void round_trip(unsigned service, size_t data)
 static void list_keys(void)
 {
     static const uint8_t inventory[XISTALVO_INVENTORY_LENGTH] = {XISTALVO_TAG_INVENTORY, 0, 4, 0, 0, 0xFF, 0xFF};
-    uint64_t result = xistalvo_command(images[0], image_length, numbers[0], NUMBER_COUNT, inventory, sizeof inventory, opened, sizeof opened);
+    uint64_t result = xistalvo_command(images[0], image_length, numbers[0], NUMBER_COUNT, XISTALVO_KEY_OFFICE, inventory, sizeof inventory, opened,
+                                       sizeof opened);
     need(result, XISTALVO_DONE, "command");
     if (XISTALVO_LENGTH(result) != XISTALVO_INVENTORY_REPLY_LENGTH(KEYS)
         || VALGRIND_CHECK_MEM_IS_DEFINED(opened, XISTALVO_INVENTORY_REPLY_LENGTH(KEYS)) != 0) {

@@ -27,26 +27,26 @@ static void call_load(void) { result = xistalvo_load(images[0], image_length, nu
 
 static void call_secure(void)
 {
-    result = xistalvo_secure(images[0], image_length, numbers[0], NUMBER_COUNT, kind, check_field, MOST_ENTRIES, clear, clear_length,
-                             secured, sizeof secured);
+    result = xistalvo_secure(images[0], image_length, numbers[0], NUMBER_COUNT, XISTALVO_KEY_OFFICE, kind, check_field, MOST_ENTRIES, clear,
+                             clear_length, secured, sizeof secured);
 }
 
 static void call_check(void)
 {
-    result = xistalvo_check(images[1], image_length, numbers[1], NUMBER_COUNT, kind, check_field, secured, secured_length, opened,
-                            sizeof opened);
+    result = xistalvo_check(images[1], image_length, numbers[1], NUMBER_COUNT, XISTALVO_KEY_OFFICE, kind, check_field, secured, secured_length,
+                            opened, sizeof opened);
 }
 
 static void call_ground_secure(void)
 {
-    result = xistalvo_ground_secure(images[0], image_length, numbers[0], NUMBER_COUNT, kind, check_field, MOST_ENTRIES, clear, clear_length,
-                                    secured, sizeof secured);
+    result = xistalvo_ground_secure(images[0], image_length, numbers[0], NUMBER_COUNT, XISTALVO_KEY_OFFICE, kind, check_field, MOST_ENTRIES, clear,
+                                    clear_length, secured, sizeof secured);
 }
 
 static void call_ground_check(void)
 {
-    result = xistalvo_ground_check(images[1], image_length, numbers[1], NUMBER_COUNT, kind, check_field, secured, secured_length, opened,
-                                   sizeof opened);
+    result = xistalvo_ground_check(images[1], image_length, numbers[1], NUMBER_COUNT, XISTALVO_KEY_OFFICE, kind, check_field, secured, secured_length,
+                                   opened, sizeof opened);
 }
 
 static void call_raise(void)
@@ -59,23 +59,24 @@ static void call_command(void)
 {
     static uint8_t command[XISTALVO_SET_NUMBER_LENGTH];
     xistalvo_make_set_number(MOST_ENTRIES, numbers[0][MOST_ENTRIES - 1] + XISTALVO_LARGEST_STEP, command, sizeof command);
-    result = xistalvo_command(images[0], image_length, numbers[0], NUMBER_COUNT, command, sizeof command, opened, sizeof opened);
+    result = xistalvo_command(images[0], image_length, numbers[0], NUMBER_COUNT, XISTALVO_KEY_OFFICE, command, sizeof command, opened, sizeof opened);
 }
 
 static void call_command_cut(void)
 {
     static uint8_t command[XISTALVO_SET_NUMBER_LENGTH];
     xistalvo_make_set_number(MOST_ENTRIES, numbers[0][MOST_ENTRIES - 1] + XISTALVO_LARGEST_STEP, command, sizeof command);
-    uint32_t made = xistalvo_command_cut(images[0], image_length, numbers[0], NUMBER_COUNT, command, sizeof command, sizeof opened, 1);
+    uint32_t made = xistalvo_command_cut(images[0], image_length, numbers[0], NUMBER_COUNT, XISTALVO_KEY_OFFICE, command, sizeof command,
+                                         sizeof opened, 1);
     result = made == 1 ? 0 : UINT64_MAX;
 }
 
-/* Of all keys, which only version 3 has; the reply is the longest there is. */
+/* Of all keys, which version 4 has; the reply is the longest there is. */
 static void call_inventory(void)
 {
     static uint8_t command[XISTALVO_INVENTORY_LENGTH];
     xistalvo_make_inventory(0, 65535, command, sizeof command);
-    result = xistalvo_command(images[0], image_length, numbers[0], NUMBER_COUNT, command, sizeof command, opened, sizeof opened);
+    result = xistalvo_command(images[0], image_length, numbers[0], NUMBER_COUNT, XISTALVO_KEY_OFFICE, command, sizeof command, opened, sizeof opened);
 }
 
 static void (*current_call)(void);
@@ -112,7 +113,7 @@ static size_t taken_over(int pattern, void (*call)(void))
     return (size_t)(frame_of_caller - (uintptr_t)stack) - unused;
 }
 
-/* Two ends with 32 associations of one kind and service, of which the last is used, in version 3 with 64 keys and the last of them; at the
+/* Two ends with 32 associations of one kind and service, of which the last is used, in version 4 with 64 keys and the last of them; at the
  * receiving end its mark is 15 lower. */
 static void make_ends(unsigned version, unsigned service)
 {
@@ -121,8 +122,8 @@ static void make_ends(unsigned version, unsigned service)
         table = (struct table){.version = version, .count = MOST_ENTRIES, .key_count = MOST_KEYS};
         for (unsigned i = 0; i < MOST_ENTRIES; i++) {
             table.entries[i] = (struct association){.spi = i + 1, .service = service, .kind = kind, .direction = end + 1, .state = 2,
-                                                    .spacecraft = 27, .channel = version == 3 && kind == 3 ? 1 << 5 : 5, .window = 1024,
-                                                    .key_id = 2 * i + 1, .key = {(uint8_t)i}, .mark = end == 0 ? 15 : 0};
+                                                    .spacecraft = 27, .channel = version >= 2 && kind == 3 ? 1 << 5 : 5, .window = 1024,
+                                                    .key_id = 2 * i + 1, .key = {(uint8_t)i}, .mark = end == 0 ? 15 : 0, .owner = 1 + i % 2};
         }
         for (unsigned i = 0; i < MOST_KEYS; i++) {
             table.keys[i] = (struct key){.id = i, .state = ACTIVE, .octets = {(uint8_t)i}};
@@ -153,7 +154,7 @@ static void make_frame(unsigned service)
 
 static size_t larger(size_t a, size_t b) { return a > b ? a : b; }
 
-/* The most that a call takes with a frame of any kind and an image of version 1 or 3. */
+/* The most that a call takes with a frame of any kind and an image of version 1 or 4. */
 static size_t taken_by(void (*call)(void), unsigned service)
 {
     static const int patterns[] = {0x5A, 0xA5};
@@ -162,7 +163,7 @@ static size_t taken_by(void (*call)(void), unsigned service)
         kind = (uint8_t)(1 + round / 2);
         check_field = kind != 4;
         for (size_t i = 0; i < sizeof patterns / sizeof patterns[0]; i++) {
-            make_ends(round % 2 == 0 ? 1 : 3, service);
+            make_ends(round % 2 == 0 ? 1 : 4, service);
             make_frame(service);
             if (call == call_check || call == call_ground_check) {
                 call_secure();

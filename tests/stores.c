@@ -188,15 +188,15 @@ static void call_watched(struct input *input)
     guarded_lend(&output_area, input->output, input->output_length, LEND_AT_END, LEND_READ_ONLY);
     bool is_on_ground = input->frame_length % 2 == 1; /* either engine, by a property of the input that nothing else turns on */
     if (input->which == CALL_SECURE) {
-        (is_on_ground ? xistalvo_ground_secure : xistalvo_secure)(image_area.range, input->image_length, input->numbers, NUMBER_COUNT, input->kind,
-                                                                  input->check_field, input->spi, input->frame, input->frame_length,
+        (is_on_ground ? xistalvo_ground_secure : xistalvo_secure)(image_area.range, input->image_length, input->numbers, NUMBER_COUNT, input->desk,
+                                                                  input->kind, input->check_field, input->spi, input->frame, input->frame_length,
                                                                   output_area.range, input->output_length);
     } else if (input->which == CALL_COMMAND) {
-        xistalvo_command(image_area.range, input->image_length, input->numbers, NUMBER_COUNT, input->frame, input->frame_length,
+        xistalvo_command(image_area.range, input->image_length, input->numbers, NUMBER_COUNT, input->desk, input->frame, input->frame_length,
                          output_area.range, input->output_length);
     } else {
-        (is_on_ground ? xistalvo_ground_check : xistalvo_check)(image_area.range, input->image_length, input->numbers, NUMBER_COUNT, input->kind,
-                                                                input->check_field, input->frame, input->frame_length, output_area.range,
+        (is_on_ground ? xistalvo_ground_check : xistalvo_check)(image_area.range, input->image_length, input->numbers, NUMBER_COUNT, input->desk,
+                                                                input->kind, input->check_field, input->frame, input->frame_length, output_area.range,
                                                                 input->output_length);
     }
     guarded_take_back(&image_area);
@@ -225,7 +225,8 @@ struct totals {
     uint64_t calls, done, refused, stores, states;
     uint64_t commands[TAG_COUNT]; /* done */
     uint64_t halves;              /* set window, seen with its first octet stored and its second not yet */
-    uint64_t thirds;              /* rekey in version 3, seen after each of its three stores */
+    uint64_t thirds;              /* rekey from version 3 on, seen after each of its three stores */
+    uint64_t by_desk[4][2];       /* desk, or 3 for one that there is not; done or refused */
 };
 
 static void judge(const struct input *before, const struct effect *effect, struct totals *totals)
@@ -242,6 +243,7 @@ static void judge(const struct input *before, const struct effect *effect, struc
     totals->calls++;
     totals->done += effect->answer == 0;
     totals->refused += effect->answer != 0;
+    totals->by_desk[before->desk < 3 ? before->desk : 3][effect->answer != 0]++;
     totals->stores += effect->store_count;
     totals->states += seen.state_count - 1;
     if (before->which == CALL_COMMAND && effect->answer == 0) {
@@ -253,7 +255,7 @@ static void judge(const struct input *before, const struct effect *effect, struc
 
 static void read_document(const struct input *input, struct effect *effect)
 {
-    struct call call = {input->image, input->image_length, input->numbers, input->numbers_length, input->kind,
+    struct call call = {input->image, input->image_length, input->numbers, input->numbers_length, input->desk, input->kind,
                         input->check_field != 0, input->spi, input->frame, input->frame_length, input->output_length};
     if (input->which == CALL_SECURE) {
         reading_secure(&call, effect);
@@ -274,6 +276,7 @@ static void make_input(struct random *random, const struct end *end, struct inpu
     size_t entry = random_below(random, (uint32_t)table.count);
     const struct association *association = &table.entries[entry];
     input_of_end(input, association->direction == 1 ? CALL_SECURE : CALL_CHECK, end);
+    input->desk = any_desk(random, association);
     input->kind = (uint8_t)association->kind;
     input->spi = (uint16_t)association->spi;
     input->output_length = 2 * DATA_MOST;
@@ -302,6 +305,7 @@ static void make_command_input(struct random *random, struct end *end, struct in
     suit_command(random, end, entry, tag, &association);
     input_of_end(input, CALL_COMMAND, end);
     make_command(random, input, tag, &association, end->numbers[entry]);
+    input->desk = any_desk(random, &association);
     if (random_percent(random, 10)) {
         break_command(random, input);
     }
@@ -309,10 +313,14 @@ static void make_command_input(struct random *random, struct end *end, struct in
     random_octets(random, input->output, input->output_length);
 }
 
-/* Every command was watched being done, a window was seen between its two stores, and a rekey that names a key after each of its three. */
+/* Every command was watched being done, a window was seen between its two stores, and a rekey that names a key after each of its three; and calls of
+ * every desk were done and refused. */
 static bool commands_are_enough(const struct totals *totals)
 {
-    bool is_enough = totals->halves > 0 && totals->thirds > 0;
+    bool is_enough = totals->halves > 0 && totals->thirds > 0 && totals->by_desk[3][1] > 0;
+    for (size_t desk = 0; desk < 3; desk++) {
+        is_enough = is_enough && totals->by_desk[desk][0] > 0 && totals->by_desk[desk][1] > 0;
+    }
     for (size_t tag = 0; tag < TAG_COUNT; tag++) {
         is_enough = is_enough && totals->commands[tag] > 0;
     }

@@ -295,7 +295,7 @@ def secured(service):
     p.note(p.bottom + 14, "Widths are not to scale.")
     if service == 2:
         p.note(p.bottom + 14, "Below version 3 of the image the IV is the number, big-endian in 12 octets; what is sent has 0 in the first 8.")
-        p.note(p.bottom + 14, "In version 3 the first 8 are the SPI, in 4 octets, and 4 zero octets.")
+        p.note(p.bottom + 14, "From version 3 on the first 8 are the SPI, in 4 octets, and 4 zero octets.")
     return p
 
 
@@ -526,11 +526,47 @@ def body_keys():
     return p
 
 
+# ---- version 4: desks
+
+
+def body_desks():
+    p = Picture("body-desks", "A body of version 4: that of version 3, and its owner")
+    heading(p, p.title, "Octets are counted from the first of the body.")
+    front = [("as in version 3", 16, FREE, ["service, kind, direction, state, spacecraft, virtual channel, MAP, window, header mask"], UNIT)]
+    at = octet_row(p, 96, "body", front, 54)
+    back = [("key ID", 2, NUMBER, ["0 to 65,535"], UNIT), ("mark m, coded", 4, NUMBER, ["m below 2^26, as m xor m/2"], UNIT)]
+    back += [("owner", 1, SORT, ["1, 2"], UNIT)]
+    assert octet_row(p, 184, "", back, 54, at) == 23
+    p.note(266, "Bodies stand at 6 + 4k + 23i, and the key part at 6 + 27k; keys are as in version 3, and so is the IV.")
+    p.note(284, "The image has exactly 7 + 27k + 35q octets: 7 with nothing in it, 3,111 with 32 entries and 64 keys.")
+    p.note(302, "No call and no command writes an owner. Below version 4 every body is desk 1's.")
+    return p
+
+
+def desks():
+    """Whose calls reach what: three desks above, the parts of an image below."""
+    p = Picture("desks", "Desks, and the parts of an image that their calls reach")
+    heading(p, p.title, "An arrow: calls of the desk see it. Where there is none, an SPI gives 4 or 14, and a key command 19.")
+    high, wide, top, low = 56, 200, 96, 236
+    above = [(84, NAMES, ["desk 1", "a laboratory"]), (364, MAC, ["desk 0", "the key office"]), (644, NUMBER, ["desk 2", "a guest laboratory"])]
+    below = [(84, NAMES, ["bodies with owner 1", "and their numbers"]), (364, MAC, ["the key part"])]
+    below += [(644, NUMBER, ["bodies with owner 2", "and their numbers"])]
+    for y, boxes in ((top, above), (low, below)):
+        for x, fill, lines in boxes:
+            p.box(x, y, wide, high, fill, lines)
+    for start, end in ((184, 184), (464, 464), (744, 744), (424, 244), (504, 684)):
+        p.arrow([(start, top + high), (end, low - 1)])
+    p.note(low + high + 24, "A rekey or a start of any desk asks the key part whether the key is there and active (17, 18), and writes nothing in it.")
+    p.note(low + high + 42, "A load, and the tests of 1 and 2 before all others, see the whole image, whoever calls. A desk above 2 is answered by 19.")
+    p.note(low + high + 60, "Below version 4 all bodies have owner 1.")
+    return p
+
+
 def initialization_vector():
     p = Picture("iv", "The IV of service 2, by the version of the image")
     heading(p, p.title, "12 octets, as they stand in the frame behind the SPI. Numbers are big-endian.")
     zeros, number = (8, FIXED, ["0", "8 octets"]), (4, NUMBER, ["number", "4 octets"])
-    rows = [("1, 2", [zeros, number]), ("3", [(4, NUMBER, ["SPI", "4 octets, the first 2 are 0"]), (4, FIXED, ["0", "4 octets"]), number])]
+    rows = [("1, 2", [zeros, number]), ("3, 4", [(4, NUMBER, ["SPI", "4 octets, the first 2 are 0"]), (4, FIXED, ["0", "4 octets"]), number])]
     y = 96
     for version, fields in rows:
         p.text(LEFT - 10, y + 24, "version", 12.5, "end", "bold")
@@ -542,13 +578,13 @@ def initialization_vector():
             p.box(x, y, UNIT * octets, 54, fill, lines)
             x, at = x + UNIT * octets, at + octets
         y += 94
-    p.note(y - 14, "A check in version 3 answers 8 where the first 8 octets are others, after the MAC was found right (7 where it was not).")
-    p.note(y + 4, "No SPI is 0, so no IV of version 3 is one of versions 1 and 2, and no two associations ever make the same one.")
+    p.note(y - 14, "From version 3 on a check answers 8 where the first 8 octets are others, once the MAC was found right (else 7).")
+    p.note(y + 4, "No SPI is 0, so no IV of versions 3 and 4 is one of versions 1 and 2, and no two associations ever make the same one.")
     return p
 
 
 def key_states():
-    p = Picture("key-states", "The states of a key in version 3, and the commands that lead from one to the other")
+    p = Picture("key-states", "The states of a key from version 3 on, and the commands that lead from one to the other")
     p.text(24, 26, p.title, 16, "start", "bold")
     y, high, wide = 64, 76, 190
     places = [("pre-active", 24, FREE, "waits"), ("active", 384, DATA, "may be used"), ("deactivated", 744, FREE, "given up")]
@@ -713,7 +749,7 @@ def states():
     p.bracket(24, 574, y + high + 14, ["set window: where no frame is served"])
     p.bracket(24, 934, y + high + 58, ["set number, status, read number: in every state"])
     p.note(y + high + 112, "From another state than the one that its arrow leaves, a command is answered by 15. The number stays,", 24)
-    p.note(y + high + 130, "and below version 3 the key too. In version 3 rekey names the key that is used from then on,", 24)
+    p.note(y + high + 130, "and below version 3 the key too. From version 3 on rekey names the key that is used from then on,", 24)
     p.note(y + high + 148, "and rekey and start need it active (17, 18).", 24)
     return p
 
@@ -753,15 +789,19 @@ MANAGEMENT = {
     "command_form": (378, 2, 166, DATA, "form, channels"),
     "inventory": (378, 3, 332, DATA, "the keys of a range, listed"),
     "procedures": (24, 4, 686, DATA, "what a command may call, a record each"),
-    "plans": (204, 5, 249, DATA, "the octet stores of each"),
-    "replies": (461, 5, 249, DATA, "the reply of each"),
+    "plans": (204, 5, 160, DATA, "the stores of each"),
+    "replies": (376, 5, 150, DATA, "the reply of each"),
+    "addressing": (538, 5, 172, DATA, "desk, form and SPI"),
     "commands": (204, 6, 506, DATA, "the command call: decided, then carried out"),
     "command_promises": (24, 7, 340, FREE, "theorems alone"),
+    "desks": (24, 8, 340, FREE, "theorems on two runs side by side"),
 }
 
 
 # Crates of theorems that show that no promise is empty: one box in the picture of the layers.
-WITNESSES = {"witness_frames", "round_trip_witnesses", "answer_witnesses", "bit_witnesses", "run_witnesses", "isolation_witnesses"}
+WITNESSES = {
+    "witness_frames", "round_trip_witnesses", "answer_witnesses", "bit_witnesses", "run_witnesses", "isolation_witnesses", "desk_witnesses",
+}
 
 
 def beside(p, own, module, arrows, bent):
@@ -818,8 +858,9 @@ def management():
         "lent_calls": (372, 7, 338, FREE, "the calls over what C lends"),
     }
     arrows = [
-        ("command_promises", "promises", 110), ("command_promises", "commands", 284), ("lent_calls", "commands", 541), ("commands", "plans", 328),
-        ("commands", "replies", 585), ("plans", "procedures", 328), ("replies", "procedures", 585), ("procedures", "verdicts", 110), ("procedures", "named_keys", 287), ("procedures", "inventory", 544),
+        ("desks", "command_promises", 194), ("command_promises", "promises", 110), ("command_promises", "commands", 284), ("lent_calls", "commands", 541), ("commands", "plans", 284),
+        ("commands", "replies", 451), ("commands", "addressing", 624), ("plans", "procedures", 284), ("replies", "procedures", 451),
+        ("addressing", "procedures", 624), ("procedures", "verdicts", 110), ("procedures", "named_keys", 287), ("procedures", "inventory", 544),
         ("inventory", "command_form", 461), ("inventory", "writing", 631), ("command_form", "association", 461), ("association", "image", 461),
         ("named_keys", "image", 287), ("promises", "link", 110),
     ]
@@ -874,7 +915,7 @@ def layers():
         "promises": (538, 14, 172, FREE, "theorems alone"),
         "lent_calls": (24, 15, 506, FREE, "the calls over what C lends"),
         "link_c": (24, 16, 506, FREE, "the C interface"),
-        "witnesses": (538, 15, 172, FREE, "not empty: six crates"),
+        "witnesses": (538, 15, 172, FREE, "not empty: seven crates"),
     }
     programs = {
         "link_cases": (7, "runs the calls"),
@@ -938,7 +979,7 @@ def layers():
 
 
 PICTURES = [tc_header, tc_segment_header, tm_header, aos_header, lambda: secured(1), lambda: secured(2), check_field, image, body]
-PICTURES += [image_keys, body_keys, initialization_vector, key_states]
+PICTURES += [image_keys, body_keys, body_desks, desks, initialization_vector, key_states]
 PICTURES += [commands, channel_names, states, packed_result, layers, management, ground]
 
 

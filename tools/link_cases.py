@@ -1,8 +1,8 @@
 #!/usr/bin/env python3
 """Makes crates/link_cases/stdin, calls of the module, and crates/link_cases/stdout, what is expected to come back and to change.
 
-All of it is read off document 01, and requests 1, 2, 4, 5, 6 and 9 of document 02, here, over whole numbers and strings of octets, and not off the code;
-AES is OpenSSL's. Each call below states the answer that the paper gives it, and the reading is held to that as well:
+All of it is read off document 01, and requests 1, 2, 4, 5, 6, 9 and 10 of document 02, here, over whole numbers and strings of octets, and not
+off the code; AES is OpenSSL's. Each call below states the answer that the paper gives it, and the reading is held to that as well:
 
   python3 tools/link_cases.py        (needs the Python package `cryptography`)
 """
@@ -20,7 +20,9 @@ LARGEST = {1: 1024, 2: 1024, 3: 2048, 4: 2048}
 SECURITY = {1: 6, 2: 14}
 FIELDS = dict(service=1, kind=1, direction=1, state=1, spacecraft=2, channel=1, map=1, window=2, mask=6, key=32, code=4)
 KEYED_FIELDS = dict(service=1, kind=1, direction=1, state=1, spacecraft=2, channel=1, map=1, window=2, mask=6, key_id=2, code=4)
+OWNED_FIELDS = dict(KEYED_FIELDS, owner=1)
 KEY_PART = 65535
+OFFICE = 0
 PRE_ACTIVE, ACTIVE, DEACTIVATED = 0, 1, 2
 
 
@@ -44,6 +46,7 @@ class Entry:
     code: int = None
     version: int = 1
     key_id: int = 7
+    owner: int = 1
 
     def channels(self):
         """The channels that it serves: of kind 3 from version 2 on, those whose bits are 1, the lowest bit for channel 0."""
@@ -69,23 +72,27 @@ class Key:
 
 
 def fields_of(version):
-    return KEYED_FIELDS if version == 3 else FIELDS
+    return {3: KEYED_FIELDS, 4: OWNED_FIELDS}.get(version, FIELDS)
+
+
+def has_keys(version):
+    return version in (3, 4)
 
 
 def positions_of(k, version=1):
-    """Where the bodies stand, and behind them the key part of version 3; its contents have one entry more than are counted."""
-    first, size = 2 + 4 * k + (4 if version == 3 else 0), sum(fields_of(version).values())
-    return [first + size * i for i in range(k + (version == 3))]
+    """Where the bodies stand, and behind them the key part of versions 3 and 4; their contents have one entry more than are counted."""
+    first, size = 2 + 4 * k + (4 if has_keys(version) else 0), sum(fields_of(version).values())
+    return [first + size * i for i in range(k + has_keys(version))]
 
 
 def image_of(*entries, positions=None, last=KEY_PART, keys=None, count=None, version=None):
-    """An image of the version of its entries. Of version 3 it has these keys, or else one for each that is named, active."""
+    """An image of the version of its entries. From version 3 on it has these keys, or else one for each that is named, active."""
     k, version = len(entries), max([1, *(e.version for e in entries)]) if version is None else version
     places = positions_of(k, version) if positions is None else positions
-    spis = [e.spi for e in entries] + ([last] if version == 3 else [])
+    spis = [e.spi for e in entries] + ([last] if has_keys(version) else [])
     contents = b"".join(spi.to_bytes(2, "big") + place.to_bytes(2, "big") for spi, place in zip(spis, places))
     bodies = b"".join(replace(e, version=version).body() for e in entries)
-    if version != 3:
+    if not has_keys(version):
         return bytes([version, k]) + contents + bodies
     keys = sorted({Key(e.key_id, ACTIVE, e.key) for e in entries}, key=lambda key: key.id) if keys is None else keys
     return bytes([version, k]) + contents + bodies + bytes([len(keys) if count is None else count]) + b"".join(key.laid_out() for key in keys)
@@ -121,17 +128,18 @@ def is_allowed(e):
         and (e.state != 2 or 1 <= e.window <= 1024)
         and (e.kind != 1 or e.mask[5] == 0)
         and e.mark < 2**26
+        and e.owner in (1, 2)
     )
 
 
 def at_keys(image):
-    """Where the key part stands, in an image of version 3."""
-    return positions_of(image[1], 3)[-1]
+    """Where the key part stands, in an image of version 3 or 4."""
+    return positions_of(image[1], image[0])[-1]
 
 
 def keys_in(image):
     """The keys of a key part that is as long as its count says, in their order; none below version 3."""
-    if image[0] != 3:
+    if not has_keys(image[0]):
         return []
     at = [at_keys(image) + 1 + 35 * j for j in range(image[at_keys(image)])]
     return [Key(int.from_bytes(image[x : x + 2], "big"), image[x + 2], image[x + 3 : x + 35]) for x in at]
@@ -139,9 +147,10 @@ def keys_in(image):
 
 def has_size(image):
     k = image[1]
-    if image[0] != 3:
+    if not has_keys(image[0]):
         return len(image) == 2 + 56 * k
-    return len(image) > 6 + 26 * k and image[6 + 26 * k] <= 64 and len(image) == 7 + 26 * k + 35 * image[6 + 26 * k]
+    part = 6 + (27 if image[0] == 4 else 26) * k
+    return len(image) > part and image[part] <= 64 and len(image) == part + 1 + 35 * image[part]
 
 
 def keys_ok(image, entries):
@@ -153,24 +162,24 @@ def keys_ok(image, entries):
 
 
 def with_key(image, e):
-    """A body of version 3 with the octets of the key that it names, if that is there."""
+    """A body of version 3 or 4 with the octets of the key that it names, if that is there."""
     named = [key.octets for key in keys_in(image) if key.id == e.key_id]
     return replace(e, key=named[0]) if named else e
 
 
 def read_image(image):
     """The entries, or None where the image breaks a rule."""
-    if len(image) < 2 or image[0] not in (1, 2, 3) or image[1] > 32 or not has_size(image):
+    if len(image) < 2 or image[0] not in (1, 2, 3, 4) or image[1] > 32 or not has_size(image):
         return None
     k, entries, size = image[1], [], sum(fields_of(image[0]).values())
-    contents = [tuple(int.from_bytes(image[at : at + 2], "big") for at in (2 + 4 * i, 4 + 4 * i)) for i in range(k + (image[0] == 3))]
+    contents = [tuple(int.from_bytes(image[at : at + 2], "big") for at in (2 + 4 * i, 4 + 4 * i)) for i in range(k + has_keys(image[0]))]
     for (spi, position), place in zip(contents[:k], positions_of(k, image[0])):
         if position != place or (entries and spi <= entries[-1].spi):
             return None
         entries.append(read_body(image[0], spi, image[position : position + size]))
     if not all(map(is_allowed, entries)):
         return None
-    if image[0] != 3:
+    if not has_keys(image[0]):
         return entries
     if contents[k] != (KEY_PART, at_keys(image)) or not keys_ok(image, entries):
         return None
@@ -179,7 +188,7 @@ def read_image(image):
 
 def stored(image, i, mark, count):
     """The image after the first so many stores that raise the mark of entry i from this one."""
-    at = positions_of(image[1], image[0])[i] + sum(fields_of(image[0]).values()) - 4
+    at = positions_of(image[1], image[0])[i] + (18 if has_keys(image[0]) else 48)
     for m in range(mark + 1, mark + count + 1):
         after = image[:at] + (m ^ m // 2).to_bytes(4, "big") + image[at + 4 :]
         assert sum(a != b for a, b in zip(image, after)) == 1, "a raise stores one octet"
@@ -270,12 +279,17 @@ def identifiers(kind, frame):
     return bits(frame, 6, 10), bits(frame, 16, 6), bits(frame, 42, 6) if kind == 2 else 0
 
 
-def matching(entries, spi, direction, kind, frame):
-    """The first entry of the contents that matches, or None."""
+def sees(desk, e):
+    """'A desk sees only its own associations', and the key office's, 0, sees all."""
+    return desk in (OFFICE, e.owner)
+
+
+def matching(entries, desk, spi, direction, kind, frame):
+    """The first entry of the contents that matches and that the desk sees, or None."""
     spacecraft, channel, map_id = identifiers(kind, frame)
     wanted = (spi, 2, direction, kind, spacecraft, map_id)
     alike = [i for i, e in enumerate(entries) if (e.spi, e.state, e.direction, e.kind, e.spacecraft, e.map) == wanted]
-    found = [i for i in alike if channel in entries[i].channels()]
+    found = [i for i in alike if channel in entries[i].channels() and sees(desk, entries[i])]
     return found[0] if found else None
 
 
@@ -316,8 +330,8 @@ SLIPS = [
 
 
 def iv_prefix(e):
-    """What the IV of version 3 has in front of the number, as a number of 12 octets."""
-    return e.spi << 64 if e.version == 3 and e.service == 2 else 0
+    """What the IV of versions 3 and 4 has in front of the number, as a number of 12 octets."""
+    return e.spi << 64 if has_keys(e.version) and e.service == 2 else 0
 
 
 def secured_frame(e, kind, frame, n, slip=None, field=False):
@@ -378,17 +392,19 @@ def disagrees(entries, numbers):
     return any(numbers[i] // 64 != e.mark for i, e in enumerate(entries))
 
 
-def securing(image, numbers, kind, field, spi, frame, room):
+def securing(image, numbers, desk, kind, field, spi, frame, room):
     entries = read_image(image)
     if entries is None:
         return 1
     if disagrees(entries, numbers):
         return 2
+    if desk > 2:
+        return 19
     if not is_frame(kind, frame, 1, field):
         return 3
     if field and not is_closed(frame):
         return 12
-    i = matching(entries, spi, 1, kind, frame)
+    i = matching(entries, desk, spi, 1, kind, frame)
     if i is None:
         return 4
     size = len(frame) + SECURITY[entries[i].service] + 16
@@ -401,18 +417,20 @@ def securing(image, numbers, kind, field, spi, frame, room):
     return Done(secured_frame(entries[i], kind, frame, numbers[i] + 1, field=field), i, numbers[i] + 1)
 
 
-def checking(image, numbers, kind, field, frame, room):
+def checking(image, numbers, desk, kind, field, frame, room):
     entries = read_image(image)
     if entries is None:
         return 1
     if disagrees(entries, numbers):
         return 2
+    if desk > 2:
+        return 19
     if not is_frame(kind, frame, 2, field):
         return 3
     if field and not is_closed(frame):
         return 12
     h = header_length(kind, frame)
-    i = matching(entries, int.from_bytes(frame[h : h + 2], "big"), 2, kind, frame)
+    i = matching(entries, desk, int.from_bytes(frame[h : h + 2], "big"), 2, kind, frame)
     if i is None:
         return 4
     rest = len(frame) - h - SECURITY[entries[i].service] - 16 - trailer(kind, frame, field)
@@ -436,6 +454,7 @@ ACTIVATION, DEACTIVATION, INVENTORY = 0b00000010, 0b00000011, 0b00000111
 # The octets of a value, and what a command asks of the state: 0 unkeyed, 1 keyed, 2 operational. Start has a channel or more.
 VALUES = {STOP: 2, REKEY: 16, EXPIRE: 2, SET_NUMBER: 14, SET_WINDOW: 4, STATUS: 2, READ_NUMBER: 2, PING: 0}
 VALUES |= {ACTIVATION: 2, DEACTIVATION: 2, INVENTORY: 4}
+OF_KEYS = (ACTIVATION, DEACTIVATION, INVENTORY)
 STATES = {START: {1}, STOP: {2}, EXPIRE: {1}, REKEY: {0}, SET_WINDOW: {0, 1}}
 GOES_TO = {START: 2, STOP: 1, EXPIRE: 0, REKEY: 1}
 
@@ -471,7 +490,7 @@ def is_refused_value(e, last, tag, rest):
     if tag == START:
         named = {rest[at : at + 4] for at in range(0, len(rest), 4)}
         return not named <= channel_names(e) or not 1 <= e.window <= 1024
-    n = int.from_bytes(rest[2:] if tag == REKEY and e.version == 3 else rest, "big")
+    n = int.from_bytes(rest[2:] if tag == REKEY and has_keys(e.version) else rest, "big")
     return {REKEY: n != 0, SET_WINDOW: not 1 <= n <= 1024, SET_NUMBER: not last < n <= min(last + 1024, MOST)}.get(tag, False)
 
 
@@ -496,20 +515,22 @@ def managing_keys(image, entries, tag, value, room):
     return Done(stores=((at_keys(image) + 1 + 35 * place + 2, ACTIVE if tag == ACTIVATION else DEACTIVATED),))
 
 
-def managing(image, numbers, octets, room):
+def managing(image, numbers, desk, octets, room):
     entries = read_image(image)
     if entries is None:
         return 1
     if disagrees(entries, numbers):
         return 2
+    if desk > 2 or (desk != OFFICE and octets[:1] and octets[0] in OF_KEYS):
+        return 19
     if not has_form(octets):
         return 13
     tag, value = octets[0], octets[3:]
     if tag == PING:
         return 6 if room < 3 else Done(tlv(tag | 128))
-    if tag in (ACTIVATION, DEACTIVATION, INVENTORY):
+    if tag in OF_KEYS:
         return managing_keys(image, entries, tag, value, room)
-    found = [i for i, e in enumerate(entries) if e.spi == int.from_bytes(value[:2], "big")]
+    found = [i for i, e in enumerate(entries) if e.spi == int.from_bytes(value[:2], "big") and sees(desk, e)]
     if not found:
         return 14
     i, rest = found[0], value[2:]
@@ -518,12 +539,12 @@ def managing(image, numbers, octets, room):
     if is_refused_value(entries[i], numbers[i], tag, rest):
         return 16
     named = int.from_bytes(rest[:2], "big") if tag == REKEY else entries[i].key_id
-    if image[0] == 3 and tag in (START, REKEY) and refused_key(image, entries, tag, named):
+    if has_keys(image[0]) and tag in (START, REKEY) and refused_key(image, entries, tag, named):
         return refused_key(image, entries, tag, named)
     if tag == SET_NUMBER:
         return Done(entry=i, number=int.from_bytes(rest, "big"))
     at = positions_of(len(entries), image[0])[i]
-    if tag == REKEY and image[0] == 3:
+    if tag == REKEY and has_keys(image[0]):
         return Done(stores=((at + 16, rest[0]), (at + 17, rest[1]), (at + 3, GOES_TO[tag])))
     if tag == SET_WINDOW:
         return Done(stores=((at + 8, rest[0]), (at + 9, rest[1])))
@@ -538,6 +559,7 @@ class Module:
 
     def __init__(self):
         self.lines, self.expected, self.octets, self.numbers = [], [], b"", [0] * 32
+        self.desk = OFFICE  # of the calls that name none
 
     def case(self, name):
         self.lines.append("# " + name)
@@ -597,19 +619,20 @@ class Module:
         self.image(image_of(replace(entry, mark=last // 64)))
         self.number(0, last)
 
-    def secure(self, kind, spi, frame, answer, room=None, stores=None, field=False):
-        room = len(frame) + 40 if room is None else room
-        self.lines.append("secure %02x %02x %04x %04x %s" % (kind, field, spi, room, frame.hex()))
-        return self.came(securing(self.octets, self.numbers, kind, field, spi, frame, room), answer, stores)
+    def secure(self, kind, spi, frame, answer, room=None, stores=None, field=False, desk=None):
+        room, desk = len(frame) + 40 if room is None else room, self.desk if desk is None else desk
+        self.lines.append("secure %02x %02x %02x %04x %04x %s" % (desk, kind, field, spi, room, frame.hex()))
+        return self.came(securing(self.octets, self.numbers, desk, kind, field, spi, frame, room), answer, stores)
 
-    def check(self, kind, frame, answer, room=None, stores=None, field=False):
-        room = len(frame) if room is None else room
-        self.lines.append("check %02x %02x %04x %s" % (kind, field, room, frame.hex()))
-        return self.came(checking(self.octets, self.numbers, kind, field, frame, room), answer, stores)
+    def check(self, kind, frame, answer, room=None, stores=None, field=False, desk=None):
+        room, desk = len(frame) if room is None else room, self.desk if desk is None else desk
+        self.lines.append("check %02x %02x %02x %04x %s" % (desk, kind, field, room, frame.hex()))
+        return self.came(checking(self.octets, self.numbers, desk, kind, field, frame, room), answer, stores)
 
-    def manage(self, octets, answer, room=17, stores=None):
-        self.lines.append(("manage %04x %s" % (room, octets.hex())).rstrip())
-        return self.came(managing(self.octets, self.numbers, octets, room), answer, stores)
+    def manage(self, octets, answer, room=17, stores=None, desk=None):
+        desk = self.desk if desk is None else desk
+        self.lines.append(("manage %02x %04x %s" % (desk, room, octets.hex())).rstrip())
+        return self.came(managing(self.octets, self.numbers, desk, octets, room), answer, stores)
 
     def cut(self, entry, n, j, stores):
         """A call that raises the mark of the entry to that of n, cut after its first j stores."""
@@ -1014,12 +1037,12 @@ def every_bit(run, kind, frame, sent):
     run.case("the same with any one bit changed: 3 or 12, whatever the SPI and the output")
     for at in range(8 * len(frame)):
         changed = (int.from_bytes(frame, "big") ^ 1 << at).to_bytes(len(frame), "big")
-        answer = securing(run.octets, run.numbers, kind, True, 8, changed, 0)
+        answer = securing(run.octets, run.numbers, OFFICE, kind, True, 8, changed, 0)
         assert answer in (3, 12)
         run.secure(kind, 8, changed, answer, room=0, field=True)
     for at in range(8 * len(sent)):
         changed = (int.from_bytes(sent, "big") ^ 1 << at).to_bytes(len(sent), "big")
-        answer = checking(run.octets, run.numbers, kind, True, changed, 0)
+        answer = checking(run.octets, run.numbers, OFFICE, kind, True, changed, 0)
         assert answer in (3, 12)
         run.check(kind, changed, answer, room=0, field=True)
 
@@ -1735,7 +1758,7 @@ def key_use(run):
     for octets, answer in steps:
         before, last = run.octets, list(run.numbers)
         run.manage(octets, answer)
-        after, done = run.octets, managing(before, last, octets, 17)
+        after, done = run.octets, managing(before, last, OFFICE, octets, 17)
         for j in range(len(done.stores) if isinstance(done, Done) else 0):
             for place, octet in done.stores[: j + 1]:
                 before = before[:place] + bytes([octet]) + before[place + 1 :]
@@ -1771,6 +1794,180 @@ def to_version_3(run):
     run.secure(1, 9, C, 0, stores=1)
 
 
+# A guest laboratory's desk: version 4
+
+GUEST = replace(SHARING, version=4, owner=2)
+# SPI 9 is desk 1's, 20 and 30 are desk 2's; 30 receives telemetry.
+THREE = [replace(GUEST, owner=1, service=1), replace(GUEST, spi=20, channel=6, mark=1)]
+THREE += [replace(GUEST, spi=30, kind=3, direction=2, channel=0x22, mark=2)]
+THREE_KEYS = [Key(7), Key(263, PRE_ACTIVE)]
+DESKS = (0, 1, 2, 3, 4, 127, 128, 255)
+
+
+def broken_owned_images():
+    """Images of version 4, each of which breaks one rule, and what it breaks."""
+    at, good = positions_of(3, 4), image_of(*THREE, keys=THREE_KEYS)
+    for place in range(3):
+        for owner in (0, 3, 4, 128, 255):
+            changed = [replace(e, owner=owner) if i == place else e for i, e in enumerate(THREE)]
+            yield "owner %d of entry %d" % (owner, place), image_of(*changed, keys=THREE_KEYS)
+    yield "an octet less", good[:-1]
+    yield "an octet more", good + b"\x00"
+    yield "version 3 in front of it", bytes([3]) + good[1:]
+    yield "version 5 in front of it", bytes([5]) + good[1:]
+    yield "version 4 in front of version 3", bytes([4]) + image_of(*(replace(e, version=3) for e in THREE), keys=THREE_KEYS)[1:]
+    yield "bodies where version 3 has them", image_of(*THREE, keys=THREE_KEYS, positions=[*positions_of(3, 3)[:3], at[3]])
+    yield "the key part where version 3 has it", image_of(*THREE, keys=THREE_KEYS, positions=[*at[:3], positions_of(3, 3)[3]])
+    for place in (at[3] - 1, at[3] + 1, at[0], 0):
+        yield "the key part's position is %d" % place, image_of(*THREE, keys=THREE_KEYS, positions=[*at[:3], place])
+    yield "the last entry's SPI", image_of(*THREE, keys=THREE_KEYS, last=65534)
+    yield "the last entry is counted", bytes([4, 4]) + good[2:]
+    for count in (0, 1, 3, 255):
+        yield "%d keys are counted" % count, image_of(*THREE, keys=THREE_KEYS, count=count)
+    yield "65 keys", image_of(*THREE, keys=[Key(7 + j) for j in range(65)])
+    yield "33 entries", bytes([4, 33]) + image_of(*(replace(GUEST, spi=1 + i) for i in range(33)))[2:]
+    yield "the key that is named is pre-active", image_of(*THREE, keys=[Key(7, PRE_ACTIVE)])
+    yield "no key at all", image_of(*THREE, keys=[])
+    yield "equal IDs", image_of(*THREE, keys=[Key(7), Key(7)])
+    yield "telemetry without a channel", image_of(replace(GUEST, kind=3, channel=0))
+    yield "a window of 0", image_of(replace(GUEST, window=0))
+    yield "a mark of 2^26", image_of(replace(GUEST, mark=2**26))
+
+
+def owned_images(run):
+    run.case("the smallest image of version 4")
+    run.number(0, 7)
+    run.image(bytes.fromhex("0400ffff000600"))
+    run.load()
+    run.case("1: images of version 4 that break one rule")
+    for name, image in broken_owned_images():
+        run.case(name)
+        run.number(0, 63)
+        run.image(image)
+        run.load(1)
+        run.secure(1, 9, C, 1, desk=1)
+        run.manage(tlv(PING), 1, desk=2)
+        run.manage(tlv(PING), 1, desk=3)
+    run.case("32 entries and 64 keys, 3,111 octets, of owners in turn; and one octet more")
+    full = [replace(GUEST, spi=1 + i, key_id=1040 * (i % 64), mark=i, owner=1 + i % 2) for i in range(32)]
+    run.fresh(*full, keys=[Key(1040 * j) for j in range(64)])
+    assert len(run.octets) == 3111
+    run.secure(1, 32, C, 4, desk=1)
+    run.secure(1, 32, C, 0, desk=2)
+    run.secure(1, 31, C, 4, desk=2)
+    run.secure(1, 31, C, 0, desk=1)
+    run.cut(31, 64 * 35, 3, 3)
+    run.image(run.octets + b"\x00")
+    run.load(1)
+    run.case("the IV of version 4 is that of version 3, and what one end of either secures the other releases")
+    for here in (3, 4):
+        run.fresh(replace(SHARING, version=here, owner=1))
+        sent = run.secure(1, 9, C, 0, desk=1)
+        assert sent[7:19] == bytes.fromhex("000000090000000000000040")
+        for there in (3, 4):
+            run.fresh(replace(SHARING, version=there, owner=1, direction=2))
+            assert run.check(1, sent, 0, desk=1) == C[5:]
+            run.check(1, sent, 8, desk=0)
+
+
+def asked_of(image):
+    """What desks ask: a name, who may (a desk; 0 for the key office alone, 3 for all), the answer then, and otherwise."""
+    entries = read_image(image)
+    sent = secured_frame(entries[2], 3, tm(b"data"), 64 * entries[2].mark + 64)
+    yield 1, ("secure", 1, 9, C), 0, 4
+    yield 2, ("secure", 1, 20, tc(9, b"data", channel=6)), 0, 4
+    yield 2, ("check", 3, sent), 0, 4
+    yield 3, ("secure", 1, 10, C), 4, 4
+    yield 3, ("secure", 1, 9, C + b"\x00"), 3, 3
+    for e, owner in zip(entries, (1, 2, 2)):
+        for tag in (STATUS, READ_NUMBER, STOP):
+            yield owner, ("manage", tlv(tag, two(e.spi))), 0, 14
+        for octets in (tlv(EXPIRE, two(e.spi)), rekey_of(e.spi, 7), start_of(e), tlv(SET_WINDOW, two(e.spi) + two(9))):
+            yield owner, ("manage", octets), 15, 14
+        yield owner, ("manage", tlv(SET_NUMBER, two(e.spi) + number_field(64 * e.mark + 64))), 0, 14
+        yield owner, ("manage", tlv(SET_NUMBER, two(e.spi) + number_field(64 * e.mark + 63))), 16, 14
+        yield 3, ("manage", tlv(STATUS, two(e.spi) + b"\x00")), 13, 13
+    yield 3, ("manage", tlv(STATUS, two(8))), 14, 14
+    yield 3, ("manage", tlv(PING)), 0, 0
+    yield 3, ("manage", b""), 13, 13
+    yield 3, ("manage", tlv(PING | 128)), 13, 13
+    yield 0, ("manage", tlv(ACTIVATION, two(263))), 0, 19
+    yield 0, ("manage", tlv(ACTIVATION, two(8))), 17, 19
+    yield 0, ("manage", tlv(DEACTIVATION, two(7))), 18, 19
+    yield 0, ("manage", tlv(INVENTORY, b"\x00\x00\xff\xff")), 0, 19
+    for tag in OF_KEYS:
+        for octets in (bytes([tag]), bytes([tag, 0]), tlv(tag), tlv(tag, b"\x00"), tlv(tag, bytes(3)), tlv(tag, bytes(16)), bytes([tag, 0, 2, 0])):
+            yield 0, ("manage", octets), 13, 19
+
+
+def desks(run):
+    image = image_of(*THREE, keys=THREE_KEYS)
+    for desk in DESKS:
+        run.case("desk %d: what it sees, and what it may ask" % desk)
+        for owner, (call, *words), seen, unseen in asked_of(image):
+            answer = 19 if desk > 2 else seen if desk == OFFICE or owner in (desk, 3) else unseen
+            run.image(image)
+            run.load()
+            getattr(run, call)(*words, answer, desk=desk)
+    run.case("2 before 19 and before what a desk sees, and 1 before 2")
+    for desk in DESKS:
+        for owner, (call, *words), _, _ in asked_of(image):
+            if owner in (0, 1):
+                run.image(image)
+                run.number(2, 64)
+                getattr(run, call)(*words, 2, desk=desk)
+                run.image(image[:-1])
+                getattr(run, call)(*words, 1, desk=desk)
+    run.case("versions 1 to 3: all is desk 1's and the key office's, and nothing desk 2's")
+    for version in (1, 2, 3):
+        for desk, answer in ((0, 0), (1, 0), (2, 4), (3, 19), (255, 19)):
+            run.fresh(replace(B, version=version))
+            run.secure(1, 9, C, answer, desk=desk)
+            run.manage(tlv(STATUS, two(9)), 14 if desk == 2 else answer, desk=desk)
+            run.manage(tlv(INVENTORY, b"\x00\x00\xff\xff"), 0 if desk == 0 else 19, desk=desk)
+            run.fresh(replace(RECEIVING, version=version))
+            run.check(1, numbered(replace(B, version=version), 64), answer, desk=desk)
+    run.case("what desk 2 is answered does not change with desk 1's part")
+    for changed in (dict(state=1), dict(window=1), dict(mark=5), dict(channel=6), dict(service=2), dict(direction=2), dict(state=0, key_id=99)):
+        run.fresh(replace(THREE[0], **changed), *THREE[1:], keys=THREE_KEYS)
+        run.secure(1, 20, tc(9, b"data", channel=6), 0, desk=2)
+        run.secure(1, 9, C, 4, desk=2)
+        for tag in (STATUS, READ_NUMBER, STOP, EXPIRE):
+            run.manage(tlv(tag, two(9)), 14, desk=2)
+        run.manage(tlv(READ_NUMBER, two(20)), 0, desk=2)
+        run.manage(tlv(STATUS, two(30)), 0, desk=2)
+
+
+def guest_link(run):
+    run.case("a guest's pass: it stops, expires, rekeys and starts its own; the key office brings the key; what is left after each loads")
+    run.fresh(*THREE, keys=THREE_KEYS)
+    frame = tc(9, b"data", channel=6)
+    steps = [(2, tlv(STOP, two(20)), 0), (2, tlv(EXPIRE, two(20)), 0), (2, rekey_of(20, 263), 18), (2, tlv(ACTIVATION, two(263)), 19)]
+    steps += [(0, tlv(ACTIVATION, two(263)), 0), (1, rekey_of(20, 263), 14), (2, rekey_of(20, 263), 0), (2, start_of(THREE[1]), 0)]
+    steps += [(0, tlv(DEACTIVATION, two(7)), 18), (2, tlv(STOP, two(9)), 14), (0, tlv(STOP, two(9)), 0), (0, tlv(DEACTIVATION, two(7)), 18)]
+    steps += [(0, tlv(STOP, two(30)), 0), (0, tlv(DEACTIVATION, two(7)), 0), (1, start_of(THREE[0]), 18)]
+    for desk, octets, answer in steps:
+        run.manage(octets, answer, desk=desk)
+    run.secure(1, 20, frame, 0, desk=2)
+    run.load()
+    run.secure(1, 20, frame, 0, desk=2, stores=1)
+    run.secure(1, 20, frame, 4, desk=1)
+    run.case("from version 3 to version 4: an owner behind each body; the numbers go on")
+    before = [replace(SHARING, mark=3), replace(SHARING, spi=20, channel=6, mark=70)]
+    run.fresh(*before)
+    run.secure(1, 9, C, 0, desk=1)
+    run.secure(1, 20, frame, 0, desk=1)
+    last, old = list(run.numbers), run.octets
+    bodies = [old[at : at + 22] + bytes([owner]) for at, owner in zip(positions_of(2, 3), (1, 2))]
+    contents = b"".join(two(spi) + two(at) for spi, at in zip((9, 20, KEY_PART), positions_of(2, 4)))
+    run.image(bytes([4, 2]) + contents + b"".join(bodies) + old[at_keys(old) :])
+    assert read_image(run.octets) is not None
+    run.secure(1, 9, C, 0, desk=1)
+    run.secure(1, 20, frame, 4, desk=1)
+    run.secure(1, 20, frame, 0, desk=2)
+    assert run.numbers[:2] == [n + 1 for n in last[:2]]
+
+
 def sends_in_a_row(run):
     run.case("sends in a row: a store at 64, at 128, and at none between them")
     run.fresh(B)
@@ -1794,8 +1991,10 @@ def longest(run):
 
 def main():
     run, rng = Module(), random.Random(1)
-    cases_a_to_h(run)
-    cases_i_to_o(run)
+    for run.desk in (1, OFFICE):
+        run.case("under desk %d" % run.desk)
+        cases_a_to_h(run)
+        cases_i_to_o(run)
     slips(run, rng)
     old_numbers(run)
     image_refusals(run)
@@ -1822,6 +2021,9 @@ def main():
     inventories(run)
     key_use(run)
     to_version_3(run)
+    owned_images(run)
+    desks(run)
+    guest_link(run)
     sends_in_a_row(run)
     longest(run)
     here = os.path.join(os.path.dirname(os.path.abspath(__file__)), "..", "crates", "link_cases")

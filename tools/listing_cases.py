@@ -1,7 +1,7 @@
 #!/usr/bin/env python3
 """Makes the images and the expected listings of crates/listing and crates/listing_cases, their files stdin and stdout.
 
-The rules are read off document 01 ('The image', 'The listing program') and document 02 (requests 1, 2, 5 and 9) here, and not off the code:
+The rules are read off document 01 ('The image', 'The listing program') and document 02 (requests 1, 2, 5, 9 and 10) here, and not off the code:
 
   python3 tools/listing_cases.py
 """
@@ -17,9 +17,12 @@ BODY += [("window", 2), ("mask", 6), ("key", 32), ("code", 4)]
 # In version 3 a body has a key's ID in place of the key, and a key has an ID, a state and 32 octets.
 SHORT_BODY = [("key_id" if name == "key" else name, 2 if name == "key" else size) for name, size in BODY]
 KEY = [("id", 2), ("state", 1), ("octets", 32)]
+# In version 4 a body has its owner as a last octet.
+OWNED_BODY = [*SHORT_BODY, ("owner", 1)]
+LAYOUTS = {1: BODY, 2: BODY, 3: SHORT_BODY, 4: OWNED_BODY}
 # The most of spacecraft, channel and MAP, by kind.
 MOST = {1: (1023, 63, 0), 2: (1023, 63, 63), 3: (1023, 7, 0), 4: (255, 63, 0)}
-CASE_B = dict(spi=9, service=1, kind=1, direction=1, state=2, spacecraft=27, channel=5, map=0, window=100, mask=0, key=0, code=0, key_id=7)
+CASE_B = dict(spi=9, service=1, kind=1, direction=1, state=2, spacecraft=27, channel=5, map=0, window=100, mask=0, key=0, code=0, key_id=7, owner=1)
 
 
 def gray(mark):
@@ -55,15 +58,23 @@ def key(id, state=1, octets=0):
     return dict(id=id, state=state, octets=octets)
 
 
-def keyed(entries, keys, last=65535, part=None, key_count=None, count=None):
-    """An image of version 3."""
-    k = len(entries)
-    places = [6 + 4 * k + 22 * i for i in range(k)] + [6 + 26 * k if part is None else part]
-    whole = bytes([3, k if count is None else count])
+def size_of(version):
+    return sum(size for _, size in LAYOUTS[version])
+
+
+def keyed(entries, keys, last=65535, part=None, key_count=None, count=None, version=3):
+    """An image of version 3 or 4."""
+    k, size = len(entries), size_of(version)
+    places = [6 + 4 * k + size * i for i in range(k)] + [6 + 4 * k + size * k if part is None else part]
+    whole = bytes([version, k if count is None else count])
     for spi, place in zip([*(e["spi"] for e in entries), last], places):
         whole += spi.to_bytes(2, "big") + place.to_bytes(2, "big")
-    whole += b"".join(laid_out(SHORT_BODY, e) for e in entries)
+    whole += b"".join(laid_out(LAYOUTS[version], e) for e in entries)
     return whole + bytes([len(keys) if key_count is None else key_count]) + b"".join(laid_out(KEY, key) for key in keys)
+
+
+def owned(entries, keys, **changes):
+    return keyed(entries, keys, version=4, **changes)
 
 
 def entry(**changes):
@@ -95,12 +106,13 @@ def body_ok(version, b):
         and (b["state"] != 2 or 1 <= b["window"] <= 1024)
         and (b["kind"] != 1 or b["mask"] % 256 == 0)
         and mark_of(b["code"]) < 2**26
+        and b.get("owner", 1) in (1, 2)
     )
 
 
 def active_keys(data):
-    """The IDs of the active keys of an image of version 3, or None where its key part, or the entry of it, breaks a rule."""
-    at = 6 + 26 * data[1]
+    """The IDs of the active keys of an image of version 3 or 4, or None where its key part, or the entry of it, breaks a rule."""
+    at = 6 + (4 + size_of(data[0])) * data[1]
     if len(data) <= at or data[at] > 64 or len(data) != at + 1 + 35 * data[at]:
         return None
     keys = [fields_of(data[at + 1 + 35 * j :][:35], KEY) for j in range(data[at])]
@@ -112,17 +124,17 @@ def active_keys(data):
 
 
 def listing(data):
-    if len(data) < 2 or data[0] not in (1, 2, 3) or data[1] > 32:
+    if len(data) < 2 or data[0] not in LAYOUTS or data[1] > 32:
         return REFUSED
-    k, before, text, has_keys = data[1], 0, TITLE, data[0] == 3
+    k, before, text, has_keys = data[1], 0, TITLE, data[0] >= 3
     active = active_keys(data) if has_keys else set()
     if active is None or (not has_keys and len(data) != 2 + 56 * k):
         return REFUSED
-    first, size = (6 + 4 * k, 22) if has_keys else (2 + 4 * k, 52)
+    first, size = (6 if has_keys else 2) + 4 * k, size_of(data[0])
     for i in range(k):
         contents = data[2 + 4 * i : 6 + 4 * i]
         spi, position = int.from_bytes(contents[:2], "big"), int.from_bytes(contents[2:], "big")
-        b = fields_of(data[first + size * i :][:size], SHORT_BODY if has_keys else BODY)
+        b = fields_of(data[first + size * i :][:size], LAYOUTS[data[0]])
         if not before < spi <= 65534 or position != first + size * i or not body_ok(data[0], b):
             return REFUSED
         if has_keys and b["state"] == 2 and b["key_id"] not in active:
@@ -212,6 +224,49 @@ def keyed_wholes():
     full = [dict(most, spi=65503 + i, code=gray(67108862 - i), key_id=65535 - i) for i in range(32)]
     yield "version 3, 32 entries and 64 keys, 3,079 octets", keyed(full, [key(65472 + j) for j in range(64)])
     yield "version 3, the last number is spent", keyed([entry(code=0x02000000)], [key(7)])
+
+
+def owned_wholes():
+    """Images of version 4 that keep the rules: the listing shows no owner."""
+    yield "version 4, no entry and no key, 7 octets", owned([], [])
+    yield "version 4, no entry, 64 keys", owned([], [key(j) for j in range(64)])
+    for owner in (1, 2):
+        yield "version 4, case B, owner %d" % owner, owned([entry(owner=owner)], [key(7)])
+    yield "version 4, three entries, owners 2, 1 and 2", owned(three(dict(owner=2), {}, dict(owner=2, state=1)), [key(7)])
+    yield "version 4, at rest, with no key", owned([entry(state=0, owner=2), entry(spi=10, state=1)], [])
+    yield "version 4, kind 3, set 128", owned([entry(kind=3, channel=128, owner=2)], [key(7)])
+    most = entry(service=2, kind=3, direction=2, spacecraft=1023, channel=255, window=1024, mask=2**48 - 1)
+    full = [dict(most, spi=65503 + i, code=gray(67108862 - i), key_id=65535 - i, owner=1 + i % 2) for i in range(32)]
+    yield "version 4, 32 entries and 64 keys, 3,111 octets", owned(full, [key(65472 + j) for j in range(64)])
+    yield "version 4, the last number is spent", owned([entry(code=0x02000000)], [key(7)])
+
+
+def owned_broken():
+    """Each rule of version 4 broken by itself."""
+    b, full = owned([entry()], [key(7)]), [entry(spi=1 + i) for i in range(32)]
+    for owner in (0, 3, 4, 128, 255):
+        yield "version 4, owner %d" % owner, owned([entry(owner=owner)], [key(7)])
+    for place in (1, 2):
+        for owner in (0, 3):
+            changes = [{}, {}, {}]
+            changes[place] = dict(owner=owner)
+            yield "version 4, owner %d of entry %d of three" % (owner, place), owned(three(*changes), [key(7)])
+    yield "version 4, one octet short", b[:-1]
+    yield "version 4, one octet too many", b + b"\x00"
+    yield "version 4, nothing behind the bodies", b[:33]
+    yield "version 4, 32 entries, 64 keys and one octet, 3,112 octets", owned(full, [key(j) for j in range(64)]) + b"\x00"
+    yield "version 4, 65 keys, 3,146 octets", owned(full, [key(j) for j in range(65)])
+    yield "version 4, 33 entries", owned(full + [entry(spi=33)], [key(7)])
+    yield "version 4, the last entry has SPI 65,534", owned([entry()], [key(7)], last=65534)
+    for part in (0, 10, 32, 34):
+        yield "version 4, the key part is at %d" % part, owned([entry()], [key(7)], part=part)
+    yield "version 4, operational, and its key is pre-active", owned([entry()], [key(7, 0)])
+    yield "version 4, operational, and there is no key 8", owned([entry(key_id=8)], [key(7)])
+    yield "version 4, kind 3, the empty set", owned([entry(kind=3, channel=0)], [key(7)])
+    yield "version 3 in front of version 4", b"\x03" + b[1:]
+    yield "version 5, laid out as version 4", b"\x05" + b[1:]
+    for name, value in OUTSIDE:
+        yield "version 4, %s %s" % (name, format(value, ",")), owned([entry(**{name: value})], [key(7)])
 
 
 def keyed_broken():
@@ -326,7 +381,7 @@ def main():
         with open(os.path.join(root, crate, name), "wb") as f:
             f.write(data)
 
-    kept, refused = [*wholes(), *keyed_wholes()], [*broken(), *keyed_broken()]
+    kept, refused = [*wholes(), *keyed_wholes(), *owned_wholes()], [*broken(), *keyed_broken(), *owned_broken()]
     for name, data in kept:
         assert listing(data) != REFUSED, name
     for name, data in refused:

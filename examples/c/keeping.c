@@ -97,7 +97,7 @@ static size_t place_of(const struct kept *kept, uint8_t entry, size_t field)
     return xistalvo_place_of_body(kept->image, entry) + field;
 }
 
-static bool has_keys(const struct kept *kept) { return kept->image[XISTALVO_AT_VERSION] == XISTALVO_IMAGE_VERSION_KEYS; }
+static bool has_keys(const struct kept *kept) { return kept->image[XISTALVO_AT_VERSION] >= XISTALVO_IMAGE_VERSION_KEYS; }
 
 static bool store_at(struct kept *kept, size_t place, uint8_t octet, store_octet *store, void *driver)
 {
@@ -149,9 +149,9 @@ static bool store_rest(struct kept *kept, uint8_t entry, store_octet *store, voi
 
 static bool store_key_states(struct kept *kept, store_octet *store, void *driver)
 {
-    size_t count = kept->image[XISTALVO_AT_COUNT], keys = has_keys(kept) ? kept->image[XISTALVO_AT_KEY_COUNT_3(count)] : 0;
+    size_t keys = has_keys(kept) ? kept->image[xistalvo_place_of_key_count(kept->image)] : 0;
     for (size_t j = 0; j < keys; j++) {
-        size_t state = XISTALVO_AT_KEY_3(count, j) + XISTALVO_IN_KEY_STATE;
+        size_t state = xistalvo_place_of_key(kept->image, j) + XISTALVO_IN_KEY_STATE;
         if (!store_at(kept, state, kept->image[state], store, driver)) {
             return false;
         }

@@ -37,7 +37,8 @@ static void say(const char *what, uint64_t result)
 static void carry_out(const char *what, const uint8_t *command, size_t length)
 {
     uint8_t reply[XISTALVO_LARGEST_REPLY];
-    uint64_t result = xistalvo_command(space.image, IMAGE_LENGTH, space.numbers, XISTALVO_NUMBERS, command, length, reply, sizeof reply);
+    uint64_t result = xistalvo_command(space.image, IMAGE_LENGTH, space.numbers, XISTALVO_NUMBERS, XISTALVO_DESK_1, command, length, reply,
+                                       sizeof reply);
     size_t reply_length = XISTALVO_LENGTH(result);
     say(what, result);
     printf("; stores %u", XISTALVO_STORES(result));
@@ -56,10 +57,10 @@ static void command(const char *what, const uint8_t *octets, size_t length)
 {
     uint8_t frame[ROOM] = {0x00, SPACECRAFT, 5 << 2, (uint8_t)(4 + length), 0}, secured[ROOM], released[ROOM];
     memcpy(frame + 5, octets, length);
-    uint64_t result = xistalvo_secure(ground.image, IMAGE_LENGTH, ground.numbers, XISTALVO_NUMBERS, XISTALVO_TC,
+    uint64_t result = xistalvo_secure(ground.image, IMAGE_LENGTH, ground.numbers, XISTALVO_NUMBERS, XISTALVO_DESK_1, XISTALVO_TC,
                                       XISTALVO_NO_CHECK_FIELD, LINK, frame, 5 + length, secured, sizeof secured);
-    result = xistalvo_check(space.image, IMAGE_LENGTH, space.numbers, XISTALVO_NUMBERS, XISTALVO_TC, XISTALVO_NO_CHECK_FIELD, secured,
-                            XISTALVO_LENGTH(result), released, sizeof released);
+    result = xistalvo_check(space.image, IMAGE_LENGTH, space.numbers, XISTALVO_NUMBERS, XISTALVO_DESK_1, XISTALVO_TC, XISTALVO_NO_CHECK_FIELD,
+                            secured, XISTALVO_LENGTH(result), released, sizeof released);
     if (XISTALVO_ANSWER(result) == XISTALVO_DONE) {
         carry_out(what, released, XISTALVO_LENGTH(result));
     }
@@ -69,12 +70,12 @@ static void command(const char *what, const uint8_t *octets, size_t length)
 static void send_picture(void)
 {
     uint8_t frame[] = {0x40 | SPACECRAFT >> 2, (uint8_t)((SPACECRAFT << 6 & 0xC0) | 12), 0, 0, 0, 0, 'p', 'i', 'c'}, secured[ROOM], released[ROOM];
-    uint64_t result = xistalvo_secure(space.image, IMAGE_LENGTH, space.numbers, XISTALVO_NUMBERS, XISTALVO_AOS,
+    uint64_t result = xistalvo_secure(space.image, IMAGE_LENGTH, space.numbers, XISTALVO_NUMBERS, XISTALVO_DESK_1, XISTALVO_AOS,
                                       XISTALVO_NO_CHECK_FIELD, CAMERA, frame, sizeof frame, secured, sizeof secured);
     say("  a picture is sent", result);
     if (XISTALVO_ANSWER(result) == XISTALVO_DONE) {
         printf(", number %u;", (unsigned)space.numbers[CAMERA_ENTRY]);
-        say(" on the ground", xistalvo_check(ground.image, IMAGE_LENGTH, ground.numbers, XISTALVO_NUMBERS, XISTALVO_AOS,
+        say(" on the ground", xistalvo_check(ground.image, IMAGE_LENGTH, ground.numbers, XISTALVO_NUMBERS, XISTALVO_DESK_1, XISTALVO_AOS,
                                              XISTALVO_NO_CHECK_FIELD, secured, XISTALVO_LENGTH(result), released, sizeof released));
     }
     putchar('\n');
@@ -98,7 +99,8 @@ int main(void)
     puts("- The numbers of both ends are raised to 1,000, and the next one sent suits every window.");
     command("set number to 1,000", octets, xistalvo_make_set_number(CAMERA, 1000, octets, sizeof octets));
     size_t length = xistalvo_make_set_number(CAMERA, 1000, octets, sizeof octets);
-    say("set number on the ground", xistalvo_command(ground.image, IMAGE_LENGTH, ground.numbers, XISTALVO_NUMBERS, octets, length, none, 0));
+    say("set number on the ground", xistalvo_command(ground.image, IMAGE_LENGTH, ground.numbers, XISTALVO_NUMBERS, XISTALVO_DESK_1, octets, length,
+                                                     none, 0));
     putchar('\n');
     send_picture();
 

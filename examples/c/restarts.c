@@ -35,15 +35,15 @@ static void command(const char *words, int arrives)
 {
     uint8_t frame[64] = {0x00, 27, 5 << 2, (uint8_t)(4 + strlen(words)), 0}, secured[96], data[64];
     memcpy(frame + 5, words, strlen(words));
-    uint64_t result = xistalvo_secure(ground.image, IMAGE_LENGTH, ground.numbers, XISTALVO_NUMBERS, XISTALVO_TC,
+    uint64_t result = xistalvo_secure(ground.image, IMAGE_LENGTH, ground.numbers, XISTALVO_NUMBERS, XISTALVO_DESK_1, XISTALVO_TC,
                                       XISTALVO_NO_CHECK_FIELD, SPI, frame, 5 + strlen(words), secured, sizeof secured);
     printf("'%s' goes out as number %u", words, (unsigned)ground.numbers[ENTRY]);
     if (!arrives) {
         puts(" and is lost");
         return;
     }
-    result = xistalvo_check(space.image, IMAGE_LENGTH, space.numbers, XISTALVO_NUMBERS, XISTALVO_TC, XISTALVO_NO_CHECK_FIELD, secured,
-                            XISTALVO_LENGTH(result), data, sizeof data);
+    result = xistalvo_check(space.image, IMAGE_LENGTH, space.numbers, XISTALVO_NUMBERS, XISTALVO_DESK_1, XISTALVO_TC, XISTALVO_NO_CHECK_FIELD,
+                            secured, XISTALVO_LENGTH(result), data, sizeof data);
     printf(": %u, %s\n", XISTALVO_ANSWER(result), xistalvo_answer_name(XISTALVO_ANSWER(result)));
 }
 

@@ -46,7 +46,7 @@ static size_t secure(struct end *ground, const char *data, uint8_t *output)
     size_t length = 5 + strlen(data);
     uint8_t frame[XISTALVO_LARGEST_FRAME] = {0x00, 27, 5 << 2, (uint8_t)(length - 1), 0}; /* the length field is the length less one */
     memcpy(frame + 5, data, strlen(data));
-    uint64_t result = xistalvo_secure(ground->image, IMAGE_LENGTH, ground->numbers, XISTALVO_NUMBERS, XISTALVO_TC,
+    uint64_t result = xistalvo_secure(ground->image, IMAGE_LENGTH, ground->numbers, XISTALVO_NUMBERS, XISTALVO_DESK_1, XISTALVO_TC,
                                       XISTALVO_NO_CHECK_FIELD, SPI, frame, length, output, XISTALVO_LARGEST_FRAME);
     say("secure", result);
     printf("; number %u, stores %u, frame", (unsigned)ground->numbers[0], XISTALVO_STORES(result));
@@ -60,7 +60,7 @@ static size_t secure(struct end *ground, const char *data, uint8_t *output)
 static void check(struct end *space, const char *what, const uint8_t *frame, size_t length)
 {
     uint8_t data[XISTALVO_LARGEST_FRAME];
-    uint64_t result = xistalvo_check(space->image, IMAGE_LENGTH, space->numbers, XISTALVO_NUMBERS, XISTALVO_TC,
+    uint64_t result = xistalvo_check(space->image, IMAGE_LENGTH, space->numbers, XISTALVO_NUMBERS, XISTALVO_DESK_1, XISTALVO_TC,
                                      XISTALVO_NO_CHECK_FIELD, frame, length, data, sizeof data);
     say(what, result);
     printf("; stores %u, data '%.*s'\n", XISTALVO_STORES(result), (int)XISTALVO_LENGTH(result), (const char *)data);
@@ -71,7 +71,8 @@ static void read_number(struct end *space)
 {
     uint8_t command[XISTALVO_SPI_ALONE_LENGTH], reply[XISTALVO_LARGEST_REPLY];
     size_t length = xistalvo_make_spi_alone(XISTALVO_TAG_READ_NUMBER, SPI, command, sizeof command);
-    uint64_t result = xistalvo_command(space->image, IMAGE_LENGTH, space->numbers, XISTALVO_NUMBERS, command, length, reply, sizeof reply);
+    uint64_t result = xistalvo_command(space->image, IMAGE_LENGTH, space->numbers, XISTALVO_NUMBERS, XISTALVO_DESK_1, command, length, reply,
+                                       sizeof reply);
     say("read number", result);
     printf("; reply");
     for (size_t i = 0; i < XISTALVO_LENGTH(result); i++) {

@@ -57,7 +57,8 @@ static void bring_to_version_3(struct end *end)
 static void command(struct end *end, const char *what, const uint8_t *octets, size_t length)
 {
     uint8_t reply[XISTALVO_LARGEST_REPLY];
-    uint64_t result = xistalvo_command(end->image, end->length, end->numbers, XISTALVO_NUMBERS, octets, length, reply, sizeof reply);
+    uint64_t result = xistalvo_command(end->image, end->length, end->numbers, XISTALVO_NUMBERS, XISTALVO_KEY_OFFICE, octets, length, reply,
+                                       sizeof reply);
     printf("%s: %s: %u, %s; stores %u", end->name, what, XISTALVO_ANSWER(result), xistalvo_answer_name(XISTALVO_ANSWER(result)),
            XISTALVO_STORES(result));
     if (xistalvo_is_reply(XISTALVO_TAG_INVENTORY, reply, XISTALVO_LENGTH(result))) {
@@ -98,16 +99,16 @@ static void send_picture(size_t camera)
 {
     uint8_t frame[] = {0x40 | SPACECRAFT >> 2, (uint8_t)((SPACECRAFT << 6 & 0xC0) | channels[camera]), 0, 0, 0, 0, 'p', 'i', 'c'};
     uint8_t secured[ROOM], released[ROOM];
-    uint64_t result = xistalvo_secure(space.image, space.length, space.numbers, XISTALVO_NUMBERS, XISTALVO_AOS, XISTALVO_NO_CHECK_FIELD, spis[camera],
-                                      frame, sizeof frame, secured, sizeof secured);
+    uint64_t result = xistalvo_secure(space.image, space.length, space.numbers, XISTALVO_NUMBERS, XISTALVO_DESK_1, XISTALVO_AOS,
+                                      XISTALVO_NO_CHECK_FIELD, spis[camera], frame, sizeof frame, secured, sizeof secured);
     printf("  a picture under SPI %u: %u", spis[camera], XISTALVO_ANSWER(result));
     if (XISTALVO_ANSWER(result) == XISTALVO_DONE) {
         printf(", IV");
         for (size_t i = 8; i < 20; i++) {
             printf(" %02X", secured[i]);
         }
-        result = xistalvo_check(ground.image, ground.length, ground.numbers, XISTALVO_NUMBERS, XISTALVO_AOS, XISTALVO_NO_CHECK_FIELD, secured,
-                                XISTALVO_LENGTH(result), released, sizeof released);
+        result = xistalvo_check(ground.image, ground.length, ground.numbers, XISTALVO_NUMBERS, XISTALVO_DESK_1, XISTALVO_AOS, XISTALVO_NO_CHECK_FIELD,
+                                secured, XISTALVO_LENGTH(result), released, sizeof released);
         printf("; on the ground: %u, %s", XISTALVO_ANSWER(result), xistalvo_answer_name(XISTALVO_ANSWER(result)));
     }
     putchar('\n');
@@ -131,7 +132,7 @@ static void lose_power_in_rekey(size_t camera)
 {
     uint8_t octets[XISTALVO_REKEY_LENGTH];
     size_t length = xistalvo_make_rekey_to(spis[camera], NEW_KEY, octets, sizeof octets);
-    uint32_t made = xistalvo_command_cut(space.image, space.length, space.numbers, XISTALVO_NUMBERS, octets, length, 0, 1);
+    uint32_t made = xistalvo_command_cut(space.image, space.length, space.numbers, XISTALVO_NUMBERS, XISTALVO_KEY_OFFICE, octets, length, 0, 1);
     const uint8_t *body = space.image + xistalvo_place_of_body(space.image, camera);
     printf("spacecraft: power fails in a rekey after %u store; the body names key %u and is in state %u\n", (unsigned)made,
            xistalvo_get_two(body + XISTALVO_IN_KEY_ID_3), body[XISTALVO_IN_STATE]);

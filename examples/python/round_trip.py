@@ -25,13 +25,13 @@ def load(end, name):
 
 def secure(ground, data):
     frame = bytes([0, 27, 5 << 2, 5 + len(data) - 1, 0]) + data  # the length field is the length less one
-    result = ground.secure(xistalvo.TC, SPI, frame)
+    result = ground.secure(xistalvo.DESK_1, xistalvo.TC, SPI, frame)
     print(f"secure: {result}; number {ground.numbers[0]}, stores {result.stores}, frame {result.octets.hex(' ').upper()}")
     return result.octets
 
 
 def check(space, what, frame):
-    result = space.check(xistalvo.TC, frame)
+    result = space.check(xistalvo.DESK_1, xistalvo.TC, frame)
     print(f"{what}: {result}; stores {result.stores}, data '{result.octets.decode()}'")
 
 
@@ -53,7 +53,7 @@ def main():
     load(space, "load on the spacecraft")  # the spacecraft restarts too, and still knows the frame
     check(space, "the same frame again", frame)
 
-    result = space.command(xistalvo.READ_NUMBER, SPI.to_bytes(2, "big"))  # over a link, it is what a check released
+    result = space.command(xistalvo.DESK_1, xistalvo.READ_NUMBER, SPI.to_bytes(2, "big"))  # over a link, it is what a check released
     print(f"read number: {result}; reply {result.octets.hex(' ').upper()}")
 
 

@@ -5,6 +5,7 @@ import ctypes
 NUMBERS = 32
 LARGEST_FRAME = 2048
 TC, TC_SEGMENT, TM, AOS = 1, 2, 3, 4
+KEY_OFFICE, DESK_1, DESK_2 = 0, 1, 2
 
 ANSWERS = {
     0: "done",
@@ -25,6 +26,7 @@ ANSWERS = {
     16: "value not allowed",
     17: "no key has the ID",
     18: "state of the key, or its use, does not allow the command",
+    19: "no such desk, or not a command of that desk",
 }
 
 # Management commands by their tags: tag, length of the value in 2 octets, value.
@@ -52,15 +54,15 @@ class Module:
     def __init__(self, path):
         library = ctypes.CDLL(path)
         buffer, size, numbers = ctypes.POINTER(ctypes.c_uint8), ctypes.c_size_t, ctypes.POINTER(ctypes.c_uint32)
-        kind, check_field, spi = ctypes.c_uint8, ctypes.c_uint8, ctypes.c_uint16
+        desk, kind, check_field, spi = ctypes.c_uint8, ctypes.c_uint8, ctypes.c_uint8, ctypes.c_uint16
         self._load = library.xistalvo_load
         self._load.argtypes = [buffer, size, numbers, size]
         self._secure = library.xistalvo_secure
-        self._secure.argtypes = [buffer, size, numbers, size, kind, check_field, spi, buffer, size, buffer, size]
+        self._secure.argtypes = [buffer, size, numbers, size, desk, kind, check_field, spi, buffer, size, buffer, size]
         self._check = library.xistalvo_check
-        self._check.argtypes = [buffer, size, numbers, size, kind, check_field, buffer, size, buffer, size]
+        self._check.argtypes = [buffer, size, numbers, size, desk, kind, check_field, buffer, size, buffer, size]
         self._command = library.xistalvo_command
-        self._command.argtypes = [buffer, size, numbers, size, buffer, size, buffer, size]
+        self._command.argtypes = [buffer, size, numbers, size, desk, buffer, size, buffer, size]
         for function in (self._load, self._secure, self._check, self._command):
             function.restype = ctypes.c_uint64
 
@@ -77,25 +79,27 @@ class End:
         """Makes the numbers from the image. Every load is a restart."""
         return Result(self.module._load(self.image, len(self.image), self.numbers, NUMBERS))
 
-    def secure(self, kind, spi, frame, check_field=False):
+    def secure(self, desk, kind, spi, frame, check_field=False):
         """The secured frame, in the result's octets. It ends in a check field if the clear one does."""
         lent, output = (ctypes.c_uint8 * len(frame))(*frame), (ctypes.c_uint8 * LARGEST_FRAME)()
         packed = self.module._secure(
-            self.image, len(self.image), self.numbers, NUMBERS, kind, check_field, spi, lent, len(frame), output, LARGEST_FRAME
+            self.image, len(self.image), self.numbers, NUMBERS, desk, kind, check_field, spi, lent, len(frame), output, LARGEST_FRAME
         )
         return Result(packed, output)
 
-    def check(self, kind, frame, check_field=False):
+    def check(self, desk, kind, frame, check_field=False):
         """The clear data, in the result's octets."""
         lent, output = (ctypes.c_uint8 * len(frame))(*frame), (ctypes.c_uint8 * LARGEST_FRAME)()
         packed = self.module._check(
-            self.image, len(self.image), self.numbers, NUMBERS, kind, check_field, lent, len(frame), output, LARGEST_FRAME
+            self.image, len(self.image), self.numbers, NUMBERS, desk, kind, check_field, lent, len(frame), output, LARGEST_FRAME
         )
         return Result(packed, output)
 
-    def command(self, tag, value=b""):
+    def command(self, desk, tag, value=b""):
         """Carries out a management command; the reply, if it has one, is in the result's octets."""
         octets = bytes([tag]) + len(value).to_bytes(2, "big") + value
         lent, output = (ctypes.c_uint8 * len(octets))(*octets), (ctypes.c_uint8 * LARGEST_REPLY)()
-        packed = self.module._command(self.image, len(self.image), self.numbers, NUMBERS, lent, len(octets), output, LARGEST_REPLY)
+        packed = self.module._command(
+            self.image, len(self.image), self.numbers, NUMBERS, desk, lent, len(octets), output, LARGEST_REPLY
+        )
         return Result(packed, output)

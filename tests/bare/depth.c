@@ -16,14 +16,14 @@ static uint64_t result;
 
 static void call_secure(void)
 {
-    result = xistalvo_secure(images[0], sizeof images[0], numbers[0], XISTALVO_NUMBERS, XISTALVO_TC, XISTALVO_NO_CHECK_FIELD, COUNT, clear,
-                             clear_length, secured, sizeof secured);
+    result = xistalvo_secure(images[0], sizeof images[0], numbers[0], XISTALVO_NUMBERS, XISTALVO_KEY_OFFICE, XISTALVO_TC, XISTALVO_NO_CHECK_FIELD,
+                             COUNT, clear, clear_length, secured, sizeof secured);
 }
 
 static void call_check(void)
 {
-    result = xistalvo_check(images[1], sizeof images[1], numbers[1], XISTALVO_NUMBERS, XISTALVO_TC, XISTALVO_NO_CHECK_FIELD, secured,
-                            sizeof secured, opened, sizeof opened);
+    result = xistalvo_check(images[1], sizeof images[1], numbers[1], XISTALVO_NUMBERS, XISTALVO_KEY_OFFICE, XISTALVO_TC, XISTALVO_NO_CHECK_FIELD,
+                            secured, sizeof secured, opened, sizeof opened);
 }
 
 /* 32 associations, of which the last is used, with the largest frame; the receiving end's mark is 15 lower. */

@@ -1,5 +1,5 @@
-/* Document 01: 'Frames' (from 'A secured frame is'), 'Managed numbers' and 'What comes back'; document 02, request 4: answer 12, and request 9:
- * the IV of version 3. */
+/* Document 01: 'Frames' (from 'A secured frame is'), 'Managed numbers' and 'What comes back'; document 02, request 4: answer 12, request 9:
+ * the IV of version 3, and request 10: desks, and answer 19. */
 #include "ciphers.h"
 #include "reading.h"
 
@@ -123,10 +123,13 @@ bool numbers_agree(const struct call *call, const struct table *table)
     return true;
 }
 
-/* 'no entry has that SPI, is operational, and matches direction, kind, spacecraft, channel and (kind 2) MAP' */
-static bool matches(const struct association *association, unsigned spi, unsigned direction, unsigned kind, const struct header *header)
+/* 'no entry has that SPI, is operational, and matches direction, kind, spacecraft, channel and (kind 2) MAP'; to a desk 'another's SPI gives 4 ..
+ * as an unknown one does' */
+static bool matches(const struct association *association, unsigned desk, unsigned spi, unsigned direction, unsigned kind,
+                    const struct header *header)
 {
     return association->spi == spi
+        && is_seen(association, desk)
         && association->state == 2
         && association->direction == direction
         && association->kind == kind
@@ -135,10 +138,11 @@ static bool matches(const struct association *association, unsigned spi, unsigne
         && (kind != 2 || association->map == header->map);
 }
 
-static bool find(const struct table *table, unsigned spi, unsigned direction, unsigned kind, const struct header *header, size_t *entry)
+static bool find(const struct table *table, const struct call *call, unsigned spi, unsigned direction, const struct header *header,
+                 size_t *entry)
 {
     for (size_t i = 0; i < table->count; i++) {
-        if (matches(&table->entries[i], spi, direction, kind, header)) {
+        if (matches(&table->entries[i], call->desk, spi, direction, call->kind, header)) {
             *entry = i;
             return true;
         }
@@ -153,7 +157,7 @@ static uint8_t octet_of_code(uint32_t mark, size_t place)
     return (uint8_t)(code_of_mark(mark) >> (8 * (3 - place)));
 }
 
-/* 'Raising m by one changes one bit, so one octet': the one of the four, the last of the body, in which the two codes differ. */
+/* 'Raising m by one changes one bit, so one octet': the one of the four, of the mark, in which the two codes differ. */
 struct store store_of_raise(unsigned version, size_t count, size_t entry, uint32_t mark)
 {
     size_t place = 0;
@@ -186,14 +190,14 @@ void carry_out_stores(const struct effect *effect, size_t j, uint8_t *image)
  * at most 64 keys. */
 static bool has_shape(const uint8_t *image, size_t length)
 {
-    if (length < 2 || image[0] < 1 || image[0] > 3 || image[1] > MOST_ENTRIES) {
+    if (length < 2 || image[0] < 1 || image[0] > 4 || image[1] > MOST_ENTRIES) {
         return false;
     }
     size_t end = body_position(image[0], image[1], image[1]);
-    if (image[0] < 3) {
+    if (!has_key_part(image[0])) {
         return length == end;
     }
-    return length > end && length == key_position(image[1], image[end]);
+    return length > end && length == key_position(image[0], image[1], image[end]);
 }
 
 uint32_t reading_raise(uint8_t *image, size_t length, unsigned entry, uint32_t number, uint32_t stores)
@@ -246,7 +250,7 @@ void reading_load(const struct call *call, struct effect *effect)
     }
 }
 
-/* ---- securing: 1, 2, 3, 12, 4, 11, 6, 10 ---- */
+/* ---- securing: 1, 2, 19, 3, 12, 4, 11, 6, 10 ---- */
 
 /* What the tests find on their way. */
 struct found {
@@ -263,13 +267,16 @@ static unsigned answer_of_securing(const struct call *call, struct found *found)
     if (!numbers_agree(call, &found->table)) {
         return 2;
     }
+    if (call->desk > GREATEST_DESK) { /* '19, desk number above 2 .. given after 2' */
+        return 19;
+    }
     if (!read_clear_frame(call->kind, call->has_field, call->frame, call->frame_length, &found->header)) {
         return 3;
     }
     if (call->has_field && !check_field_is_right(call->frame, call->frame_length)) {
         return 12;
     }
-    if (!find(&found->table, call->spi, 1, call->kind, &found->header, &found->entry)) {
+    if (!find(&found->table, call, call->spi, 1, &found->header, &found->entry)) {
         return 4;
     }
     size_t result = call->frame_length + security_header_length(found->table.entries[found->entry].service) + MAC_LENGTH;
@@ -302,7 +309,7 @@ void reading_secure(const struct call *call, struct effect *effect)
                                    effect->result);
 }
 
-/* ---- checking: 1, 2, 3, 12, 4, 5, 9, 6, 7, 8 ---- */
+/* ---- checking: 1, 2, 19, 3, 12, 4, 5, 9, 6, 7, 8 ---- */
 
 /* Where the parts of a secured frame lie, once an association is found. */
 struct parts {
@@ -369,6 +376,9 @@ static unsigned answer_of_checking(const struct call *call, struct found *found,
     if (!numbers_agree(call, &found->table)) {
         return 2;
     }
+    if (call->desk > GREATEST_DESK) {
+        return 19;
+    }
     if (!read_secured_frame(call->kind, call->has_field, call->frame, call->frame_length, &found->header)) {
         return 3;
     }
@@ -376,7 +386,7 @@ static unsigned answer_of_checking(const struct call *call, struct found *found,
         return 12;
     }
     unsigned spi = call->frame[found->header.length] * 256u + call->frame[found->header.length + 1];
-    if (!find(&found->table, spi, 2, call->kind, &found->header, &found->entry)) {
+    if (!find(&found->table, call, spi, 2, &found->header, &found->entry)) {
         return 4;
     }
     const struct association *association = &found->table.entries[found->entry];

@@ -1,4 +1,5 @@
-/* Document 02, request 5: management commands; request 9: key activation, deactivation and inventory, and rekey that names a key. */
+/* Document 02, request 5: management commands; request 9: key activation, deactivation and inventory, and rekey that names a key; request 10:
+ * whose they are. */
 #include "reading.h"
 
 #include <string.h>
@@ -97,12 +98,12 @@ static bool has_form(const struct call *call, struct command *command)
 
 /* ---- 14 ---- */
 
-/* 'SPI not in the table': whatever direction, kind and state the entry has. */
-static bool find_spi(struct command *command)
+/* 'SPI not in the table': whatever direction, kind and state the entry has; 'another's SPI gives .. 14 as an unknown one does'. */
+static bool find_spi(const struct call *call, struct command *command)
 {
     uint64_t spi = number_of_octets(command->value, SPI_LENGTH);
     for (size_t i = 0; i < command->table.count; i++) {
-        if (command->table.entries[i].spi == spi) {
+        if (command->table.entries[i].spi == spi && is_seen(&command->table.entries[i], call->desk)) {
             command->entry = i;
             return true;
         }
@@ -192,7 +193,7 @@ static bool value_is_allowed(const struct call *call, const struct command *comm
     switch (command->what) {
     case START: /* 'start refuses (16) one outside 1 to 1,024' */
         return channels_are_own(command) && window_is_allowed(association->window);
-    case REKEY: /* 'its key ID is 0', and in version 3 any; 'keeping .. mark', so that no number can be asked for */
+    case REKEY: /* 'its key ID is 0', and from version 3 on any; 'keeping .. mark', so that no number can be asked for */
         return (association->names_key || number_of_octets(rest, ID_LENGTH) == 0) && number_of_octets(rest + ID_LENGTH, 4) == 0
             && number_of_octets(rest + ID_LENGTH + 4, 8) == 0;
     case SET_WINDOW:
@@ -251,7 +252,20 @@ static bool key_is_in_state(const struct command *command)
     }
 }
 
-/* ---- the order: 1, 2, 13, 14, 15, 16, 17, 18, 6 ---- */
+/* ---- 19 ---- */
+
+/* '19, desk number above 2, or a key command from desk 1 or 2, given after 2': before 13, so that a key command is known by its tag alone. */
+static bool is_refused_to_desk(const struct call *call)
+{
+    enum what what;
+    if (call->desk > GREATEST_DESK) {
+        return true;
+    }
+    return call->desk != KEY_OFFICE && call->frame_length != 0 && find_tag(call->frame[0], &what)
+        && (what == ACTIVATION || what == DEACTIVATION || what == INVENTORY);
+}
+
+/* ---- the order: 1, 2, 19, 13, 14, 15, 16, 17, 18, 6 ---- */
 
 static bool names_spi(enum what what)
 {
@@ -282,11 +296,14 @@ static unsigned answer_of_command(const struct call *call, struct command *comma
     if (!numbers_agree(call, &command->table)) {
         return 2;
     }
+    if (is_refused_to_desk(call)) {
+        return 19;
+    }
     if (!has_form(call, command)) {
         return 13;
     }
     if (names_spi(command->what)) { /* 'One SPI a command', but for those that have none */
-        if (!find_spi(command)) {
+        if (!find_spi(call, command)) {
             return 14;
         }
         if (!is_in_state(command)) {
@@ -322,7 +339,7 @@ static void store(struct effect *effect, const struct command *command, size_t p
 
 static void store_key_state(struct effect *effect, const struct command *command, uint8_t state)
 {
-    struct store made = {key_position(command->table.count, command->key) + AT_KEY_STATE, state};
+    struct store made = {key_position(command->table.version, command->table.count, command->key) + AT_KEY_STATE, state};
     effect->stores[effect->store_count++] = made;
 }
 

@@ -1,4 +1,5 @@
-/* Document 01, 'The image'; document 02, request 1, for kind 4, request 2, for version 2, request 5, for windows, and request 9, for version 3. */
+/* Document 01, 'The image'; document 02, request 1, for kind 4, request 2, for version 2, request 5, for windows, request 9, for version 3, and
+ * request 10, for version 4. */
 #include "reading.h"
 
 #include <string.h>
@@ -33,18 +34,25 @@ static void take_many(struct cursor *cursor, uint8_t *to, size_t count)
 
 /* ---- where parts stand ---- */
 
-enum { FRONT_LENGTH = 2, ENTRY_LENGTH = 4, BODY_LENGTH = 52, SHORT_BODY_LENGTH = 22, COUNT_LENGTH = 1, STORED_KEY_LENGTH = 35 };
+enum { FRONT_LENGTH = 2, ENTRY_LENGTH = 4, BODY_LENGTH = 52, SHORT_BODY_LENGTH = 22, OWNER_LENGTH = 1, COUNT_LENGTH = 1, STORED_KEY_LENGTH = 35 };
 enum { MARK_LENGTH = 4, KEY_PART_SPI = 65535 };
 
-static bool has_key_part(unsigned version)
+/* Version 4 is 'else laid out and handled as 3'. */
+bool has_key_part(unsigned version)
 {
-    return version == 3;
+    return version == 3 || version == 4;
 }
 
-/* 'Bodies hold a key ID in place of the key, 22 octets each.' */
+static bool has_owners(unsigned version)
+{
+    return version == 4;
+}
+
+/* 'Bodies hold a key ID in place of the key, 22 octets each'; 'Each body gains a last octet, its owner, 1 or 2, in version 4'. */
 static size_t body_length(unsigned version)
 {
-    return has_key_part(version) ? SHORT_BODY_LENGTH : BODY_LENGTH;
+    size_t length = has_key_part(version) ? SHORT_BODY_LENGTH : BODY_LENGTH;
+    return has_owners(version) ? length + OWNER_LENGTH : length;
 }
 
 /* 'contents, then bodies, then up to 64 keys'; 'The contents gain one last entry, SPI 65,535 and outside the count, for the key part'. */
@@ -53,21 +61,21 @@ size_t body_position(unsigned version, size_t count, size_t entry)
     return FRONT_LENGTH + ENTRY_LENGTH * (count + (has_key_part(version) ? 1 : 0)) + body_length(version) * entry;
 }
 
-/* The mark ends a body. */
+/* The mark ends a body, or stands before its owner. */
 size_t mark_position(unsigned version, size_t count, size_t entry)
 {
-    return body_position(version, count, entry + 1) - MARK_LENGTH;
+    return body_position(version, count, entry + 1) - MARK_LENGTH - (has_owners(version) ? OWNER_LENGTH : 0);
 }
 
 /* 'the key part, which opens with its own count octet' and stands behind the last body. */
-static size_t key_part_position(size_t count)
+static size_t key_part_position(unsigned version, size_t count)
 {
-    return body_position(3, count, count);
+    return body_position(version, count, count);
 }
 
-size_t key_position(size_t count, size_t key)
+size_t key_position(unsigned version, size_t count, size_t key)
 {
-    return key_part_position(count) + COUNT_LENGTH + STORED_KEY_LENGTH * key;
+    return key_part_position(version, count) + COUNT_LENGTH + STORED_KEY_LENGTH * key;
 }
 
 /* ---- reading ---- */
@@ -102,6 +110,11 @@ bool serves_channel(const struct association *association, unsigned channel)
     return association->channel == channel;
 }
 
+bool is_seen(const struct association *association, unsigned desk)
+{
+    return desk == KEY_OFFICE || association->owner == desk;
+}
+
 /* The rows of the body's table, in its order. */
 static void read_body(struct cursor *cursor, unsigned version, struct association *body)
 {
@@ -123,6 +136,7 @@ static void read_body(struct cursor *cursor, unsigned version, struct associatio
         body->key_id = 0;
     }
     body->mark = mark_of_code(take_four(cursor));
+    body->owner = has_owners(version) ? take_one(cursor) : 1;
 }
 
 /* The column 'allowed'; 'For kind 4 the image allows spacecraft up to 255, channel up to 63, MAP 0'; of a set, 'zero breaks
@@ -139,7 +153,8 @@ static bool body_obeys(const struct association *body)
         && is_within(body->map, 0, body->kind == 2 ? 63 : 0)
         && (body->state != 2 || is_within(body->window, 1, 1024))
         && (body->kind != 1 || body->mask[MASK_LENGTH - 1] == 0)
-        && body->mark < (1u << 26);
+        && body->mark < (1u << 26)
+        && is_within(body->owner, 1, 2);
 }
 
 bool body_allowed(const uint8_t *body, unsigned version)
@@ -165,7 +180,7 @@ static bool read_contents(struct cursor *cursor, struct table *table)
     }
     if (has_key_part(table->version)) {
         unsigned spi = take_two(cursor);
-        return spi == KEY_PART_SPI && take_two(cursor) == key_part_position(table->count);
+        return spi == KEY_PART_SPI && take_two(cursor) == key_part_position(table->version, table->count);
     }
     return true;
 }
@@ -233,7 +248,7 @@ static bool length_is_right(const uint8_t *image, size_t length, struct table *t
         return false;
     }
     table->key_count = image[bodies_end];
-    return length == key_position(table->count, table->key_count);
+    return length == key_position(table->version, table->count, table->key_count);
 }
 
 bool read_image(const uint8_t *image, size_t length, struct table *table)
@@ -244,7 +259,7 @@ bool read_image(const uint8_t *image, size_t length, struct table *table)
     struct cursor cursor = {image};
     table->version = take_one(&cursor);
     table->count = take_one(&cursor);
-    if (!is_within(table->version, 1, 3) || table->count > MOST_ENTRIES || !length_is_right(image, length, table)) {
+    if (!is_within(table->version, 1, 4) || table->count > MOST_ENTRIES || !length_is_right(image, length, table)) {
         return false;
     }
     if (!read_contents(&cursor, table)) {
@@ -295,7 +310,8 @@ static uint8_t *write_body(uint8_t *to, unsigned version, const struct associati
     to = put(to, body->window, 2);
     to = put_many(to, body->mask, MASK_LENGTH);
     to = has_key_part(version) ? put(to, body->key_id, 2) : put_many(to, body->key, KEY_LENGTH);
-    return put(to, code_of_mark(body->mark), 4);
+    to = put(to, code_of_mark(body->mark), 4);
+    return has_owners(version) ? put(to, body->owner, OWNER_LENGTH) : to;
 }
 
 static uint8_t *write_keys(uint8_t *to, const struct table *table)
@@ -319,7 +335,7 @@ size_t write_image(const struct table *table, uint8_t *image)
     }
     if (has_key_part(table->version)) {
         to = put(to, KEY_PART_SPI, 2);
-        to = put(to, (uint32_t)key_part_position(table->count), 2);
+        to = put(to, (uint32_t)key_part_position(table->version, table->count), 2);
     }
     for (size_t i = 0; i < table->count; i++) {
         to = write_body(to, table->version, &table->entries[i]);

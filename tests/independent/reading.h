@@ -14,7 +14,7 @@ enum {
     MOST_ENTRIES = 32,      /* 'count k, 0 to 32' */
     NUMBER_COUNT = 32,      /* 'There are 32' */
     MOST_KEYS = 64,         /* document 02, request 9: 'up to 64 keys' */
-    LARGEST_IMAGE = 3079,   /* of version 3: 7 + 26 * 32 + 35 * 64; those of versions 1 and 2 end at 1,794 */
+    LARGEST_IMAGE = 3111,   /* of version 4: 7 + 27 * 32 + 35 * 64; those of version 3 end at 3,079, those of versions 1 and 2 at 1,794 */
     LARGEST_FRAME = 2048,   /* of any kind */
     MASK_LENGTH = 6,
     KEY_LENGTH = 32,
@@ -37,10 +37,11 @@ struct association {
     unsigned map;
     unsigned window;
     uint8_t mask[MASK_LENGTH];
-    bool names_key;   /* document 02, request 9: version 3, whose bodies 'hold a key ID in place of the key'; not laid out */
+    bool names_key;   /* document 02, request 9: from version 3 on, whose bodies 'hold a key ID in place of the key'; not laid out */
     unsigned key_id;  /* where it names a key */
     uint8_t key[KEY_LENGTH]; /* the body's own, or that which it names; zeros where there is none of that ID */
     uint32_t mark; /* as a number, not as its code */
+    unsigned owner; /* document 02, request 10: 'its owner, 1 or 2, in version 4', laid out there alone; 'older bodies are desk 1's' */
 };
 
 /* Document 02, request 9: 'each an ID of 2 octets (rising), a state octet .. and 32 octets' */
@@ -53,7 +54,7 @@ struct key {
 };
 
 struct table {
-    unsigned version; /* 1 to 3 */
+    unsigned version; /* 1 to 4 */
     size_t count;
     struct association entries[MOST_ENTRIES];
     size_t key_count; /* none below version 3 */
@@ -72,11 +73,19 @@ size_t write_image(const struct table *table, uint8_t *image);
 /* The position of a body, of its mark, and of a key, in an image of this version and count. */
 size_t body_position(unsigned version, size_t count, size_t entry);
 size_t mark_position(unsigned version, size_t count, size_t entry);
-size_t key_position(size_t count, size_t key);
+size_t key_position(unsigned version, size_t count, size_t key);
 
 /* The key of this ID, as its index, or the count of keys where there is none; and the keys of all entries anew, from what they name. */
 size_t find_key(const struct table *table, unsigned id);
 void resolve_keys(struct table *table);
+
+/* Document 02, request 10: the desks. 'The key part stays with the key office, whose desk is 0, sees all'; 'A desk sees only its own
+ * associations'. */
+enum { KEY_OFFICE = 0, GREATEST_DESK = 2 };
+bool is_seen(const struct association *association, unsigned desk);
+
+/* Whether versions lay out a key part. */
+bool has_key_part(unsigned version);
 
 /* Whether frames of a channel match: it is the association's, or 'is in the set'. */
 bool serves_channel(const struct association *association, unsigned channel);
@@ -137,6 +146,7 @@ struct call {
     size_t image_length;
     const uint32_t *numbers;
     size_t numbers_length;
+    unsigned desk; /* of all but a load */
     unsigned kind;
     bool has_field;
     unsigned spi; /* securing only */

@@ -34,8 +34,8 @@ static void print_octets(const char *name, const uint8_t *octets, size_t length)
 
 static void print_input(const struct input *input)
 {
-    fprintf(stderr, "  call %s, kind %u, check field %u, spi %u, output of %zu octets\n", call_names[input->which], input->kind,
-            input->check_field, input->spi, input->output_length);
+    fprintf(stderr, "  call %s, desk %u, kind %u, check field %u, spi %u, output of %zu octets\n", call_names[input->which], input->desk,
+            input->kind, input->check_field, input->spi, input->output_length);
     print_octets("image", input->image, input->image_length);
     fprintf(stderr, "  numbers, %zu:", input->numbers_length);
     for (size_t i = 0; i < input->numbers_length; i++) {
@@ -121,17 +121,17 @@ static uint64_t call_module(const struct input *input)
         return xistalvo_load(image_area.range, input->image_length, numbers, input->numbers_length);
     case CALL_SECURE:
         return (is_on_ground() ? xistalvo_ground_secure : xistalvo_secure)(image_area.range, input->image_length, numbers,
-                                                                           input->numbers_length, input->kind, input->check_field, input->spi,
-                                                                           frame_area.range, input->frame_length, output_area.range,
-                                                                           input->output_length);
+                                                                           input->numbers_length, input->desk, input->kind,
+                                                                           input->check_field, input->spi, frame_area.range,
+                                                                           input->frame_length, output_area.range, input->output_length);
     case CALL_COMMAND:
-        return xistalvo_command(image_area.range, input->image_length, numbers, input->numbers_length, frame_area.range,
+        return xistalvo_command(image_area.range, input->image_length, numbers, input->numbers_length, input->desk, frame_area.range,
                                 input->frame_length, output_area.range, input->output_length);
     default:
         return (is_on_ground() ? xistalvo_ground_check : xistalvo_check)(image_area.range, input->image_length, numbers,
-                                                                         input->numbers_length, input->kind, input->check_field,
-                                                                         frame_area.range, input->frame_length, output_area.range,
-                                                                         input->output_length);
+                                                                         input->numbers_length, input->desk, input->kind,
+                                                                         input->check_field, frame_area.range, input->frame_length,
+                                                                         output_area.range, input->output_length);
     }
 }
 
@@ -148,7 +148,7 @@ static void take_all_back(void)
 
 static void read_document(const struct input *input, struct effect *effect)
 {
-    struct call call = {input->image, input->image_length, input->numbers, input->numbers_length, input->kind,
+    struct call call = {input->image, input->image_length, input->numbers, input->numbers_length, input->desk, input->kind,
                         input->check_field != 0, input->spi, input->frame, input->frame_length, input->output_length};
     switch (input->which) {
     case CALL_LOAD:
@@ -290,7 +290,8 @@ uint32_t both_cut_command(struct random *random, struct input *input, uint32_t s
     guarded_lend(&frame_area, input->frame, input->frame_length, any_end(random), LEND_READ_ONLY);
     guarded_lend(&output_area, input->output, input->output_length, any_end(random), LEND_READ_ONLY);
     uint32_t made = xistalvo_command_cut(image_area.range, input->image_length, (const uint32_t *)(const void *)numbers_area.range,
-                                         input->numbers_length, frame_area.range, input->frame_length, input->output_length, stores);
+                                         input->numbers_length, input->desk, frame_area.range, input->frame_length, input->output_length,
+                                         stores);
     take_all_back();
     fetch(input);
     if (is_comparing) {

@@ -16,6 +16,7 @@ struct input {
     size_t image_length;
     uint32_t numbers[NUMBER_ROOM];
     size_t numbers_length;
+    uint8_t desk; /* no load has one */
     uint8_t kind;
     uint8_t check_field; /* 0 says that there is none, any other number that there is one */
     uint16_t spi;

@@ -1,4 +1,4 @@
-/* Random management commands (document 02, requests 5 and 9), with a liking for limits. */
+/* Random management commands (document 02, requests 5, 9 and 10), with a liking for limits. */
 #ifndef COMMANDS_H
 #define COMMANDS_H
 
@@ -35,7 +35,7 @@ size_t reply_length(unsigned tag);
 bool names_spi(unsigned tag);
 
 /* Puts an entry into a state, mostly that which the command asks for, with a window that this allows, sometimes close to the last numbers
- * there are; in version 3 the key that the command is about into a state too, which is mostly active, or for activation pre-active. Gives
+ * there are; from version 3 on the key that the command is about into a state too, which is mostly active, or for activation pre-active. Gives
  * the association as it then is, but for its key ID, which is that of the key that the command is to name. */
 void suit_command(struct random *random, struct end *end, size_t entry, unsigned tag, struct association *association);
 

@@ -59,6 +59,22 @@ static void any_own_fields(struct random *random, struct association *associatio
     association->state = random_percent(random, 90) ? 2 : random_below(random, 2);
     any_window(random, association);
     association->mark = any_mark(random);
+    association->owner = random_between(random, 1, 2); /* laid out in version 4 alone */
+}
+
+uint8_t any_desk(struct random *random, const struct association *association)
+{
+    uint32_t chance = random_below(random, 100);
+    if (chance < 45) {
+        return KEY_OFFICE;
+    }
+    if (chance < 85) {
+        return (uint8_t)association->owner;
+    }
+    if (chance < 96) {
+        return (uint8_t)(3 - association->owner);
+    }
+    return (uint8_t)RANDOM_OF(random, 3, 3, 4, 128, 255);
 }
 
 unsigned any_channel(struct random *random, const struct association *association)
@@ -103,7 +119,7 @@ static void any_association(struct random *random, unsigned version, struct asso
                                                          : random_below(random, 1024);
     association->spacecraft &= greatest_spacecraft;
     any_channels(random, version, association);
-    association->names_key = version == 3;
+    association->names_key = has_key_part(version);
     association->key_id = 0;
     association->map = association->kind == 2 ? (random_percent(random, 40) ? 63 : random_below(random, 64)) : 0;
     any_key_and_mask(random, association);
@@ -207,12 +223,12 @@ static void name_any_key(struct random *random, const struct table *table, struc
     }
 }
 
-/* The key part of an end of version 3: the pool in an order, with IDs and states of the end's own. Each association names the key that has its
+/* The key part of an end of version 3 or 4: the pool in an order, with IDs and states of the end's own. Each association names the key that has its
  * octets, which is active if the association is operational; one that is not may name another. */
 static void lay_out_keys(struct random *random, struct table *table, const struct pool *pool)
 {
     size_t shift = pool->count == 0 ? 0 : random_below(random, (uint32_t)pool->count);
-    table->key_count = table->version == 3 ? pool->count : 0;
+    table->key_count = has_key_part(table->version) ? pool->count : 0;
     for (size_t i = 0; i < table->key_count; i++) {
         memcpy(table->keys[i].octets, pool->octets[(i + shift) % pool->count], KEY_LENGTH);
         table->keys[i].state = random_percent(random, 50) ? ACTIVE : random_below(random, 3);
@@ -220,7 +236,7 @@ static void lay_out_keys(struct random *random, struct table *table, const struc
     any_key_ids(random, table);
     for (size_t i = 0; i < table->count; i++) {
         struct association *entry = &table->entries[i];
-        entry->names_key = table->version == 3;
+        entry->names_key = has_key_part(table->version);
         if (!entry->names_key) {
             continue;
         }
@@ -276,15 +292,15 @@ void make_world(struct random *random, struct world *world, size_t count)
     struct table table;
     struct pool pool;
     unsigned versions[2];
-    versions[0] = random_percent(random, 50) ? 3 : random_between(random, 1, 2);
-    versions[1] = random_percent(random, 75) ? versions[0] : random_between(random, 1, 3);
+    versions[0] = random_percent(random, 70) ? random_between(random, 3, 4) : random_between(random, 1, 2);
+    versions[1] = random_percent(random, 75) ? versions[0] : random_between(random, 1, 4);
     table.version = versions[0];
     table.count = count;
     for (size_t i = 0; i < count; i++) {
         any_association(random, table.version, &table.entries[i]);
     }
     any_spis(random, &table);
-    if (versions[0] == 3 && versions[1] == 3) {
+    if (has_key_part(versions[0]) && has_key_part(versions[1])) {
         share_keys(random, &table);
     }
     make_pool(random, &table, &pool);
@@ -336,6 +352,15 @@ static void change_other_keys(struct random *random, struct table *table, unsign
     }
 }
 
+static void change_one(struct random *random, struct input *input, struct table *table, size_t entry)
+{
+    any_association(random, table->version, &table->entries[entry]);
+    if (has_key_part(table->version)) {
+        name_key_anew(random, table, &table->entries[entry]);
+    }
+    input->numbers[entry] = 64 * table->entries[entry].mark + random_below(random, 64);
+}
+
 void change_others(struct random *random, struct input *input, size_t kept)
 {
     struct table table;
@@ -344,15 +369,27 @@ void change_others(struct random *random, struct input *input, size_t kept)
     }
     for (size_t i = 0; i < table.count; i++) {
         if (i != kept) {
-            any_association(random, table.version, &table.entries[i]);
-            if (table.version == 3) {
-                name_key_anew(random, &table, &table.entries[i]);
-            }
-            input->numbers[i] = 64 * table.entries[i].mark + random_below(random, 64);
+            change_one(random, input, &table, i);
         }
     }
     if (input->which != CALL_COMMAND) {
         change_other_keys(random, &table, table.entries[kept].key_id);
+    }
+    write_image(&table, input->image);
+}
+
+void change_unseen(struct random *random, struct input *input)
+{
+    struct table table;
+    if (!read_image(input->image, input->image_length, &table)) {
+        both_fail("a test changes bodies of an image that breaks a rule");
+    }
+    for (size_t i = 0; i < table.count; i++) {
+        unsigned owner = table.entries[i].owner;
+        if (!is_seen(&table.entries[i], input->desk)) {
+            change_one(random, input, &table, i);
+            table.entries[i].owner = owner;
+        }
     }
     write_image(&table, input->image);
 }
@@ -451,6 +488,7 @@ void input_of_end(struct input *input, enum which_call which, const struct end *
     memcpy(input->image, end->image, end->image_length);
     input->numbers_length = NUMBER_COUNT;
     memcpy(input->numbers, end->numbers, sizeof end->numbers);
+    input->desk = KEY_OFFICE;
     input->kind = 0;
     input->check_field = 0;
     input->spi = 0;

@@ -11,10 +11,10 @@ struct end {
     uint32_t numbers[NUMBER_COUNT];
 };
 
-/* Two ends with the same associations, direction 2 for 1; windows, states and marks are each end's own. Each image is of version 1 to 3;
- * where the versions differ, and sometimes where they do not, TM associations have other channels there, one of them the same. In version 3
+/* Two ends with the same associations, direction 2 for 1; windows, states, marks and owners are each end's own. Each image is of version 1 to 4;
+ * where the versions differ, and sometimes where they do not, TM associations have other channels there, one of them the same. From version 3 on
  * both ends have the same key octets, under IDs of their own and in states of their own, more of them than are named in some worlds; where
- * both are of version 3, associations may share a key. A body that is not operational may name any key, or one that is not there. */
+ * both are of version 3 or 4, associations may share a key. A body that is not operational may name any key, or one that is not there. */
 struct world {
     struct end ends[2];
 };
@@ -36,13 +36,19 @@ void any_window(struct random *random, struct association *association);
 /* A channel that an association serves. */
 unsigned any_channel(struct random *random, const struct association *association);
 
-/* Lets an association serve, with this key: its state, a window, and in version 3 the ID of a key with these octets, which becomes active.
+/* A desk: mostly one that sees the association, else the other one, or one that there is not. */
+uint8_t any_desk(struct random *random, const struct association *association);
+
+/* Lets an association serve, with this key: its state, a window, and from version 3 on the ID of a key with these octets, which becomes active.
  * False, with nothing changed, where a key part holds no such key. */
 bool bring_to_service(struct random *random, struct table *table, size_t entry, const uint8_t key[KEY_LENGTH]);
 
-/* Makes every association but one anew, with the same SPIs and with numbers that agree; in version 3, for sending and checking, also the octets of
- * every key but that association's. The image breaks no rule, before and after. */
+/* Makes every association but one anew, with the same SPIs and with numbers that agree; from version 3 on, for sending and checking, also the octets
+ * of every key but that association's. The image breaks no rule, before and after. */
 void change_others(struct random *random, struct input *input, size_t kept);
+
+/* The same of every association that the input's desk does not see, with the same owners, and the key part as it is. */
+void change_unseen(struct random *random, struct input *input);
 
 /* Whether two associations make the IV of a number alike, if their service has one. */
 bool make_iv_alike(const struct association *one, const struct association *other);
@@ -54,7 +60,7 @@ size_t make_clear_frame(struct random *random, const struct association *associa
 /* A number of data octets from 1, such that most secured frames are small and some are around the largest. */
 size_t any_data_length(struct random *random, const struct association *association);
 
-/* Sets the input's image and numbers to an end's. */
+/* Sets the input's image and numbers to an end's; the desk is the key office's, which sees all. */
 void input_of_end(struct input *input, enum which_call which, const struct end *end);
 
 /* Keeps for the end what the module left in the input. */

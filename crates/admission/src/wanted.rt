@@ -1,34 +1,36 @@
-// Document 01, 'What comes back', answer 4: what a frame asks of an entry.
+// Document 01, 'What comes back', answer 4: what a call and its frame ask of an entry.
 use association::Wanted;
+use judging::Said;
 use kinds::Framing;
 use kinds::Named;
 use octets::two_at;
 ghost use mathlib.Core.Path.{_≡_};
-ghost use Rattle.kinds.specs.Kinds.{kindIs, kindOf, kindBehind};
+ghost use Rattle.kinds.specs.Kinds.{framed, kindBehind};
 ghost use Rattle.protection.specs.Protection.{spiIn};
-ghost use Rattle.judging.specs.Said.{saying};
+ghost use Rattle.judging.specs.Said.{kindSaid};
 ghost use Rattle.judging.specs.Wants.{wanted};
 
 pub(crate) const SENDING: u8 = 1;
 
 pub(crate) const RECEIVING: u8 = 2;
 
-// `number` is the number that names the kind.
+// The framing is what the caller says of the frame.
 pub(crate) fn wanted_by(
     spi: u16,
     direction: u8,
-    number: u8,
+    said: Said,
     framing: Framing,
     frame: &[u8],
 ) -> Wanted
-    requires { ⌜ kindOf number ≡ kindIs (framing .kind) ⌝ }
-    ensures { λ r. ⌜ r ≡ wanted spi direction (saying number (framing .field)) (now (frame .entry)) ⌝ }
+    requires { ⌜ kindSaid said ≡ framed framing ⌝ }
+    ensures { λ r. ⌜ r ≡ wanted spi direction said (now (frame .entry)) ⌝ }
 {
     let kind = framing.kind;
     Wanted {
+        desk: said.desk,
         spi,
         direction,
-        kind: number,
+        kind: said.kind,
         spacecraft: kind.spacecraft(frame),
         channel: kind.channel(frame),
         map: kind.map(frame),

@@ -9,9 +9,10 @@ use native.Mathlib.Decide.{ℕ-discrete}
 use native.Mathlib.Omega.{arith}
 use borrow.Author.Tests.{eqb-true}
 use lib.Dec.{eqb}
-use Rattle.octets.proofs.Alls.{and-left}
-use Rattle.image.specs.Image.{countOf, spiOf}
-use Rattle.association.specs.Search.{matches, firstFrom, entryFor}
+use Rattle.octets.proofs.Alls.{and-left, and-right}
+use Rattle.bodies.specs.Body.{ownerOf}
+use Rattle.image.specs.Image.{versionOf, countOf, spiOf, bodyOf}
+use Rattle.association.specs.Search.{sees, hasSpi, matches, firstFrom, entryFor}
 use Rattle.association.specs.declared.search.Found.{Found}
 use Rattle.association.specs.declared.search.Found.the-variants as found
 use Rattle.association.specs.declared.search.Wanted.{Wanted}
@@ -86,10 +87,22 @@ pub found-nothing : (image : List ℕ) (w : Wanted) → entryFor image w ≡ fou
 unfolding entryFor
 found-nothing image w e i h = first-nothing (countOf image) 0 (matches image w) e i (omega arith) (omega arith)
 
+-- what an entry with an SPI has, for a desk: it, and an owner whom that desk sees
+pub has-spi : (image : List ℕ) (desk spi i : ℕ) → hasSpi image desk spi i ≡ true
+    → (spiOf image i ≡ spi) × (sees desk (ownerOf (versionOf image) (bodyOf image i)) ≡ true)
+unfolding hasSpi
+has-spi image desk spi i e =
+    (eqb-true (spiOf image i) spi (and-left (eqb (spiOf image i) spi) _ e), and-right (eqb (spiOf image i) spi) _ e)
+
 -- what an entry that matches has
 pub matched-spi : (image : List ℕ) (w : Wanted) (i : ℕ) → matches image w i ≡ true → spiOf image i ≡ w .spi
 unfolding matches
-matched-spi image w i e = eqb-true (spiOf image i) (w .spi) (and-left (eqb (spiOf image i) (w .spi)) _ e)
+matched-spi image w i e = has-spi image (w .desk) (w .spi) i (and-left (hasSpi image (w .desk) (w .spi) i) _ e) .0
+
+pub matched-seen : (image : List ℕ) (w : Wanted) (i : ℕ) → matches image w i ≡ true
+    → sees (w .desk) (ownerOf (versionOf image) (bodyOf image i)) ≡ true
+unfolding matches
+matched-seen image w i e = has-spi image (w .desk) (w .spi) i (and-left (hasSpi image (w .desk) (w .spi) i) _ e) .1
 
 -- in a valid image no other entry matches, so the one that does is found
 pub matched-once : (image : List ℕ) → Valid image → (w : Wanted) (i j : ℕ) → i < countOf image → j < countOf image

@@ -1,11 +1,13 @@
-// Document 01, 'What comes back', answer 4, and document 02, requests 2 and 5: the search of the contents for the entry that serves a frame,
-// and for the one that a command names.
+// Document 01, 'What comes back', answer 4, and document 02, requests 2, 5 and 10: the search of the contents for the entry that serves a
+// frame, and for the one that a command names. An entry that the desk which asks does not see is none.
+use bodies::KEY_OFFICE;
 use bodies::OPERATIONAL;
 use bodies::channel_of;
 use bodies::direction_of;
 use bodies::holds_set;
 use bodies::kind_in;
 use bodies::map_of;
+use bodies::owner_of;
 use bodies::spacecraft_of;
 use bodies::state_of;
 use image::body_at;
@@ -17,7 +19,7 @@ use kinds::kind_of;
 ghost use mathlib.Core.Path.{_≡_};
 ghost use Rattle.kinds.specs.Kinds.{hasMap, kindOf};
 ghost use Rattle.bodies.specs.Body.{bodyIn};
-ghost use Rattle.association.specs.Search.{inSet, servesChannel, servesMap, bodyServes, matches, entryFor, withSpi};
+ghost use Rattle.association.specs.Search.{inSet, servesChannel, servesMap, bodyServes, sees, hasSpi, matches, entryFor, withSpi};
 
 // The index of an entry, or none.
 pub enum Found {
@@ -25,8 +27,9 @@ pub enum Found {
     Nothing,
 }
 
-// What a frame and its SPI ask of an entry.
+// What a desk, a frame and its SPI ask of an entry.
 pub struct Wanted {
+    pub desk: u8,
     pub spi: u16,
     pub direction: u8,
     pub kind: u8,
@@ -83,16 +86,31 @@ fn body_serves(image: &[u8], version: u8, at: u16, wanted: Wanted) -> bool
         & serves_map(image, version, at, wanted.map)
 }
 
+// The key office's desk sees every body, another those that belong to it.
+fn sees(desk: u8, owner: u8) -> bool
+    ensures { λ r. ⌜ r ≡ sees desk owner ⌝ }
+{
+    (desk == KEY_OFFICE) | (desk == owner)
+}
+
+// Whether an entry has an SPI, for a desk.
+fn has_spi(image: &[u8], desk: u8, spi: u16, index: u8) -> bool
+    ensures { λ r. ⌜ r ≡ hasSpi (now (image .entry)) desk spi index ⌝ }
+{
+    let owner = owner_of(image, version_of(image), body_at(image, index));
+    (spi_of(image, index) == spi) & sees(desk, owner)
+}
+
 fn entry_matches(image: &[u8], wanted: Wanted, index: u8) -> bool
     ensures { λ r. ⌜ r ≡ matches (now (image .entry)) wanted index ⌝ }
 {
-    (spi_of(image, index) == wanted.spi)
+    has_spi(image, wanted.desk, wanted.spi, index)
         & body_serves(image, version_of(image), body_at(image, index), wanted)
 }
 
 // The entry with an SPI, whatever its direction, kind and state.
-pub fn find_spi(image: &[u8], spi: u16) -> Found
-    ensures { λ r. ⌜ r ≡ withSpi (now (image .entry)) spi ⌝ }
+pub fn find_spi(image: &[u8], desk: u8, spi: u16) -> Found
+    ensures { λ r. ⌜ r ≡ withSpi (now (image .entry)) desk spi ⌝ }
 {
     let count = count_of(image);
     let mut i: u8 = 0;
@@ -100,7 +118,7 @@ pub fn find_spi(image: &[u8], spi: u16) -> Found
         if count <= i {
             break Found::Nothing;
         }
-        if spi_of(image, i) == spi {
+        if has_spi(image, desk, spi, i) {
             break Found::At(i);
         }
         i += 1;

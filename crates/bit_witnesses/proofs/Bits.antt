@@ -68,7 +68,7 @@ unfolding fieldOk rightField registered
 right-so k frame octets e = or-so (not (k .endsInField)) _ (rw (field-register (length frame - 2) frame octets) e)
 
 -- any bit of a frame whose octets are octets and whose field is right
-any-bit : (said : Said) (frame : List ℕ) → said .checkField ≡ true → areOctets frame ≡ true → registered frame ≡ true
+any-bit : (said : Said) (frame : List ℕ) → said .field ≡ true → areOctets frame ≡ true → registered frame ≡ true
     → (p b : ℕ) → p < length frame → b < 8 → BitOf said frame p b
 any-bit said frame present octets right p b place bit =
     record {

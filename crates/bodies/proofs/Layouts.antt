@@ -6,33 +6,71 @@ use native.Mathlib.Omega.{arith}
 use mathlib.Core.Path.{_≡_}
 use mathlib.Core.Bool.{Bool, true, false, cond}
 use lib.Dec.{eqb}
-use Rattle.bodies.specs.Layout.{fieldsEnd, mostBody, keyLength, idLength, versionOne, versionTwo, versionThree, layoutOf, Lawful}
+use Rattle.bodies.specs.Layout.{fieldsEnd, mostBody, keyLength, idLength, versionOne, versionTwo, versionThree, versionFour, layoutOf, Lawful}
 
 -- ---- one proof for each version
 
-without-keys : false ≡ true → 1 ≤ 0
-without-keys e = let z : _≡_ {A = ℕ} 0 1 = cc in omega arith
+-- what a version has not asks for nothing
+without : {A : Type 0} → false ≡ true → A
+without e = let z : _≡_ {A = ℕ} 0 1 = cc in absurd (omega arith)
 
 one-lawful : Lawful versionOne
 one-lawful =
-    record { key = omega arith; mark = omega arith; inside = omega arith; small = omega arith; few = omega arith; entry = without-keys }
+    record {
+      key = omega arith;
+      mark = omega arith;
+      inside = omega arith;
+      owner = without;
+      small = omega arith;
+      few = omega arith;
+      entry = without;
+    }
 
 two-lawful : Lawful versionTwo
 two-lawful =
-    record { key = omega arith; mark = omega arith; inside = omega arith; small = omega arith; few = omega arith; entry = without-keys }
+    record {
+      key = omega arith;
+      mark = omega arith;
+      inside = omega arith;
+      owner = without;
+      small = omega arith;
+      few = omega arith;
+      entry = without;
+    }
 
 three-lawful : Lawful versionThree
 three-lawful =
-    record { key = omega arith; mark = omega arith; inside = omega arith; small = omega arith; few = omega arith; entry = λ e. omega arith }
+    record {
+      key = omega arith;
+      mark = omega arith;
+      inside = omega arith;
+      owner = without;
+      small = omega arith;
+      few = omega arith;
+      entry = λ e. omega arith;
+    }
+
+four-lawful : Lawful versionFour
+four-lawful =
+    record {
+      key = omega arith;
+      mark = omega arith;
+      inside = omega arith;
+      owner = λ e. omega arith;
+      small = omega arith;
+      few = omega arith;
+      entry = λ e. omega arith;
+    }
 
 pub lawful : (version : ℕ) → Lawful (layoutOf version)
 unfolding layoutOf
-lawful version = by-version (eqb version 3) (eqb version 2)
+lawful version = by-version (eqb version 4) (eqb version 3) (eqb version 2)
   where
-    by-version : (three two : Bool) → Lawful (cond three versionThree (cond two versionTwo versionOne))
-    by-version true two = three-lawful
-    by-version false true = two-lawful
-    by-version false false = one-lawful
+    by-version : (four three two : Bool) → Lawful (cond four versionFour (cond three versionThree (cond two versionTwo versionOne)))
+    by-version true three two = four-lawful
+    by-version false true two = three-lawful
+    by-version false false true = two-lawful
+    by-version false false false = one-lawful
 
 -- ---- over any lawful layout
 

@@ -16,8 +16,8 @@ use Rattle.kinds.specs.Kinds.{Kind, kindIs, kindOf, named}
 use Rattle.kinds.specs.declared.kinds.Kind as code
 use Rattle.kinds.specs.declared.kinds.Named.{Named}
 use Rattle.kinds.specs.declared.kinds.Named.the-variants as naming
-use Rattle.bodies.specs.Body.{serviceOf, kindIn, directionOf, stateOf, spacecraftOf, channelOf, holdsSet, mapOf, windowOf, maskOf, markOf}
-use Rattle.bodies.specs.Body.{operational, mostWindow, channelOk, kindOk, windowOk, bodyOk}
+use Rattle.bodies.specs.Body.{serviceOf, kindIn, directionOf, stateOf, spacecraftOf, channelOf, holdsSet, mapOf, windowOf, maskOf, markOf, ownerOf}
+use Rattle.bodies.specs.Body.{firstDesk, lastDesk, operational, mostWindow, channelOk, kindOk, windowOk, bodyOk}
 use Rattle.bodies.specs.Layout.{maskPlace, maskLength}
 
 -- a mask has six octets
@@ -42,6 +42,7 @@ pub record ValidBody (version : ℕ) (body : List ℕ) : Type 0 where
   pub kind : KindKept version body
   pub window : stateOf body ≡ operational → (1 ≤ windowOf body) × (windowOf body ≤ mostWindow)
   pub mark : markOf version body < 2 ^ 26
+  pub owner : (firstDesk ≤ ownerOf version body) × (ownerOf version body ≤ lastDesk)
 
 pub between : (low x high : ℕ) → (leb low x && leb x high) ≡ true → (low ≤ x) × (x ≤ high)
 between low x high e =
@@ -95,4 +96,5 @@ valid-body version body e =
       kind = kind-kept version body (named (kindIn body)) refl (search (and-left, and-right));
       window = serving-window body (search (and-left, and-right));
       mark = ltb-true (markOf version body) (2 ^ 26) (search (and-left, and-right));
+      owner = between firstDesk (ownerOf version body) lastDesk (search (and-left, and-right));
     }

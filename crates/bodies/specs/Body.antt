@@ -1,4 +1,4 @@
--- Document 01, 'The image', and document 02, requests 2, 5 and 9: the body of an entry, what its octets hold and what is allowed there. Octets
+-- Document 01, 'The image', and document 02, requests 2, 5, 9 and 10: the body of an entry, what its octets hold and what is allowed there. Octets
 -- are counted from the body's first. A field whose place, size or rule depends on the image's version is given it.
 -- Assumes nothing.
 use Prim.Native.Nat.{ℕ, _^_}
@@ -12,7 +12,7 @@ use Rattle.kinds.specs.declared.kinds.Named.{Named}
 use Rattle.kinds.specs.declared.kinds.Named.the-variants as naming
 use Rattle.marks.specs.Gray.{codeLength, ungray}
 use Rattle.bodies.specs.Layout.{servicePlace, kindPlace, directionPlace, statePlace, spacecraftPlace, channelPlace, mapPlace, windowPlace}
-use Rattle.bodies.specs.Layout.{maskPlace, maskLength, idLength, layoutOf}
+use Rattle.bodies.specs.Layout.{maskPlace, maskLength, idLength, ownerPlace, layoutOf}
 
 -- ---- what it holds
 
@@ -62,6 +62,20 @@ codeOf version body = numberAt (layoutOf version .mark) codeLength body
 
 abbrev pub markOf : ℕ → List ℕ → ℕ
 markOf version body = ungray (codeOf version body)
+
+-- the desks: the key office's, and those to which bodies belong, from the first to the last
+abbrev pub keyOffice : ℕ
+keyOffice = 0
+
+abbrev pub firstDesk : ℕ
+firstDesk = 1
+
+abbrev pub lastDesk : ℕ
+lastDesk = 2
+
+-- the desk to which it belongs; in a version that has no owners, the first
+abbrev pub ownerOf : ℕ → List ℕ → ℕ
+ownerOf version body = cond (layoutOf version .owners) (octet body (ownerPlace (layoutOf version))) firstDesk
 
 -- ---- what is allowed
 
@@ -117,6 +131,9 @@ windowOk body = not (eqb (stateOf body) operational) || windowFits (windowOf bod
 abbrev pub markOk : ℕ → List ℕ → Bool
 markOk version body = ltb (markOf version body) (2 ^ 26)
 
+abbrev pub ownerOk : ℕ → List ℕ → Bool
+ownerOk version body = leb firstDesk (ownerOf version body) && leb (ownerOf version body) lastDesk
+
 -- every rule of a body; the key may be any, and so may be the ID of one
 unfoldable pub bodyOk : ℕ → List ℕ → Bool
 bodyOk version body =
@@ -126,3 +143,4 @@ bodyOk version body =
     && kindOk version (named (kindIn body)) body
     && windowOk body
     && markOk version body
+    && ownerOk version body

@@ -1,7 +1,7 @@
--- Document 01, 'The image', and document 02, requests 2 and 9: where everything of an image stands. What differs from version to version is one
+-- Document 01, 'The image', and document 02, requests 2, 9 and 10: where everything of an image stands. What differs from version to version is one
 -- record for each version, and nothing else names its numbers; what every version has stands at the same places in each.
 -- Assumes nothing.
-use Prim.Native.Nat.{ℕ, _+_, _≤_}
+use Prim.Native.Nat.{ℕ, _+_, _≤_, _<_}
 use mathlib.Core.Path.{_≡_}
 use mathlib.Core.Bool.{Bool, true, false, cond}
 use lib.Dec.{eqb}
@@ -54,20 +54,24 @@ abbrev pub idLength : ℕ
 idLength = 2
 
 -- the version's number; the octets of a body, and where in it key and mark stand; the entries that the contents have beyond the count;
--- whether a TM body holds a set of channels in place of one; and whether the keys stand in a part of their own, behind the bodies, so that a
--- body holds a key's ID in place of the key
+-- whether a TM body holds a set of channels in place of one; whether the keys stand in a part of their own, behind the bodies, so that a
+-- body holds a key's ID in place of the key; and whether an octet behind the mark holds the body's owner
 abbrev pub versionOne : Layout
-versionOne = record { version = 1; body = 52; key = 16; mark = 48; extra = 0; sets = false; keys = false }
+versionOne = record { version = 1; body = 52; key = 16; mark = 48; extra = 0; sets = false; keys = false; owners = false }
 
 abbrev pub versionTwo : Layout
-versionTwo = record { version = 2; body = 52; key = 16; mark = 48; extra = 0; sets = true; keys = false }
+versionTwo = record { version = 2; body = 52; key = 16; mark = 48; extra = 0; sets = true; keys = false; owners = false }
 
 abbrev pub versionThree : Layout
-versionThree = record { version = 3; body = 22; key = 16; mark = 18; extra = 1; sets = true; keys = true }
+versionThree = record { version = 3; body = 22; key = 16; mark = 18; extra = 1; sets = true; keys = true; owners = false }
+
+abbrev pub versionFour : Layout
+versionFour = record { version = 4; body = 23; key = 16; mark = 18; extra = 1; sets = true; keys = true; owners = true }
 
 -- the layout by which an image is read: its version's, and for an image of no version that there is, version 1's
 unfoldable pub layoutOf : ℕ → Layout
-layoutOf version = cond (eqb version 3) versionThree (cond (eqb version 2) versionTwo versionOne)
+layoutOf version =
+    cond (eqb version 4) versionFour (cond (eqb version 3) versionThree (cond (eqb version 2) versionTwo versionOne))
 
 -- there is a version if it has a layout of its own
 abbrev pub versionOk : ℕ → Bool
@@ -79,6 +83,10 @@ versionOk version = eqb version (layoutOf version .version)
 abbrev pub keyWidth : Layout → ℕ
 keyWidth l = cond (l .keys) idLength keyLength
 
+-- where the owner stands, in a version that has it: behind the mark
+abbrev pub ownerPlace : Layout → ℕ
+ownerPlace l = l .mark + codeLength
+
 -- no body is longer, and no contents have more entries beyond the count
 abbrev pub mostBody : ℕ
 mostBody = 64
@@ -86,11 +94,12 @@ mostBody = 64
 abbrev pub mostExtra : ℕ
 mostExtra = 1
 
--- fields, key and mark stand in this order in the body, no place is large, and the contents have an entry for a key part
+-- fields, key, mark and owner stand in this order in the body, no place is large, and the contents have an entry for a key part
 pub record Lawful (l : Layout) : Type 0 where
   pub key : fieldsEnd ≤ l .key
   pub mark : l .key + keyWidth l ≤ l .mark
   pub inside : l .mark + codeLength ≤ l .body
+  pub owner : l .owners ≡ true → ownerPlace l < l .body
   pub small : l .body ≤ mostBody
   pub few : l .extra ≤ mostExtra
   pub entry : l .keys ≡ true → 1 ≤ l .extra

@@ -1,5 +1,6 @@
-// Document 01, 'The image', and document 02, requests 2, 5 and 9: the body of an entry, what its octets hold and what is allowed there.
+// Document 01, 'The image', and document 02, requests 2, 5, 9 and 10: the body of an entry, what its octets hold and what is allowed there.
 use crate::layout::CHANNEL;
+use crate::layout::CODE_LENGTH;
 use crate::layout::DIRECTION;
 use crate::layout::KIND;
 use crate::layout::MAP;
@@ -22,8 +23,8 @@ ghost use Prim.Native.Nat.{_+_, _<_, _≤_};
 ghost use Rattle.octets.specs.Lists.{octet};
 ghost use Rattle.octets.specs.Numbers.{numberAt};
 ghost use Rattle.kinds.specs.Kinds.{kindIs, named};
-ghost use Rattle.bodies.specs.Body.{bodyIn, serviceOf, kindIn, directionOf, stateOf, spacecraftOf, channelOf, holdsSet, mapOf, windowOf, maskOf, keyIdOf, codeOf};
-ghost use Rattle.bodies.specs.Body.{serviceOk, directionOk, stateOk, channelOk, maskOk, kindOk, windowFits, windowOk, markOk, bodyOk};
+ghost use Rattle.bodies.specs.Body.{bodyIn, serviceOf, kindIn, directionOf, stateOf, spacecraftOf, channelOf, holdsSet, mapOf, windowOf, maskOf, keyIdOf, codeOf, ownerOf};
+ghost use Rattle.bodies.specs.Body.{serviceOk, directionOk, stateOk, channelOk, maskOk, kindOk, windowFits, windowOk, markOk, ownerOk, bodyOk};
 ghost use Rattle.bodies.specs.Layout.{fieldsEnd};
 
 // The states, in their order; an association serves in the last.
@@ -32,6 +33,13 @@ pub const UNKEYED: u8 = 0;
 pub const KEYED: u8 = 1;
 
 pub const OPERATIONAL: u8 = 2;
+
+// The desks: the key office's, and those to which bodies belong, from the first to the last.
+pub const KEY_OFFICE: u8 = 0;
+
+const FIRST_DESK: u8 = 1;
+
+pub const LAST_DESK: u8 = 2;
 
 // What it holds. Of the fields that every version has: octet k, and the number of two octets from there on.
 fn body_octet(image: &[u8], version: u8, at: u16, k: usize) -> u8
@@ -126,6 +134,17 @@ pub fn code_of(image: &[u8], version: u8, at: u16) -> u32
     four_at(image, at as usize + layout_of(version).mark as usize)
 }
 
+// The desk to which it belongs; in a version that has no owners, the first.
+pub fn owner_of(image: &[u8], version: u8, at: u16) -> u8
+    ensures { λ r. ⌜ r ≡ ownerOf version (bodyIn (now (image .entry)) version at) ⌝ }
+{
+    let layout = layout_of(version);
+    if layout.owners {
+        return octet_at(image, at as usize + layout.mark as usize + CODE_LENGTH);
+    }
+    FIRST_DESK
+}
+
 // What is allowed: a function for each rule of the table.
 fn service_ok(image: &[u8], version: u8, at: u16) -> bool
     ensures { λ r. ⌜ r ≡ serviceOk (bodyIn (now (image .entry)) version at) ⌝ }
@@ -209,6 +228,13 @@ fn mark_ok(image: &[u8], version: u8, at: u16) -> bool
     code_of(image, version, at) < 67108864
 }
 
+fn owner_ok(image: &[u8], version: u8, at: u16) -> bool
+    ensures { λ r. ⌜ r ≡ ownerOk version (bodyIn (now (image .entry)) version at) ⌝ }
+{
+    let owner = owner_of(image, version, at);
+    (FIRST_DESK <= owner) & (owner <= LAST_DESK)
+}
+
 pub fn body_ok(image: &[u8], version: u8, at: u16) -> bool
     ensures { λ r. ⌜ r ≡ bodyOk version (bodyIn (now (image .entry)) version at) ⌝ }
 {
@@ -218,4 +244,5 @@ pub fn body_ok(image: &[u8], version: u8, at: u16) -> bool
         & kind_ok(image, version, at)
         & window_ok(image, version, at)
         & mark_ok(image, version, at)
+        & owner_ok(image, version, at)
 }

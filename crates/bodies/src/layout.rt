@@ -23,6 +23,9 @@ pub(crate) const MASK: usize = 10;
 
 pub(crate) const MASK_LENGTH: usize = 6;
 
+// The octets of a mark, coded.
+pub(crate) const CODE_LENGTH: usize = 4;
+
 pub struct Layout {
     pub version: u8,
     // The octets of a body, and where in it key and mark stand.
@@ -35,12 +38,26 @@ pub struct Layout {
     pub sets: bool,
     // Whether the keys stand in a part of their own, so that a body holds a key's ID in place of the key.
     pub keys: bool,
+    // Whether an octet behind the mark holds the body's owner.
+    pub owners: bool,
 }
 
 // The layout of a version; another number is read as version 1 is, and is not the number of that layout.
 pub fn layout_of(version: u8) -> Layout
     ensures { λ r. ⌜ (r ≡ layoutOf version) × Lawful r ⌝ }
 {
+    if version == 4 {
+        return Layout {
+            version: 4,
+            body: 23,
+            key: 16,
+            mark: 18,
+            extra: 1,
+            sets: true,
+            keys: true,
+            owners: true,
+        };
+    }
     if version == 3 {
         return Layout {
             version: 3,
@@ -50,6 +67,7 @@ pub fn layout_of(version: u8) -> Layout
             extra: 1,
             sets: true,
             keys: true,
+            owners: false,
         };
     }
     if version == 2 {
@@ -61,6 +79,7 @@ pub fn layout_of(version: u8) -> Layout
             extra: 0,
             sets: true,
             keys: false,
+            owners: false,
         };
     }
     Layout {
@@ -71,6 +90,7 @@ pub fn layout_of(version: u8) -> Layout
         extra: 0,
         sets: false,
         keys: false,
+        owners: false,
     }
 }
 

@@ -3,7 +3,9 @@
 mod body;
 mod layout;
 
+pub use body::KEY_OFFICE;
 pub use body::KEYED;
+pub use body::LAST_DESK;
 pub use body::OPERATIONAL;
 pub use body::UNKEYED;
 pub use body::body_ok;
@@ -15,6 +17,7 @@ pub use body::key_id_of;
 pub use body::kind_in;
 pub use body::map_of;
 pub use body::mask_of;
+pub use body::owner_of;
 pub use body::service_of;
 pub use body::spacecraft_of;
 pub use body::state_of;

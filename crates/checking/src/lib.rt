@@ -4,12 +4,12 @@ mod checking;
 use admission::admit_receiving;
 use checking::check_under;
 use judging::Admission;
+use judging::Said;
 use link::Outcome;
 use link::refused;
 use numbers::Numbers;
 ghost use mathlib.Core.Path.{_≡_};
 ghost use Rattle.engines.specs.Lent.{Lent};
-ghost use Rattle.judging.specs.Said.{saying};
 ghost use Rattle.link.specs.Calls.{leaving, checked};
 
 // The clear data of a secured frame to the front of the output, under the association that the frame's SPI names. `field` says whether the
@@ -18,15 +18,14 @@ pub fn check_by(
     tables: &[u32],
     image: &mut [u8],
     numbers: Numbers,
-    kind: u8,
-    field: bool,
+    said: Said,
     frame: &[u8],
     output: &mut [u8],
 ) -> Outcome
     requires { ⌜ Lent (now tables) ⌝ }
-    ensures { λ r. ⌜ leaving r (now (image .exit)) (now (output .exit)) ≡ checked (now (image .entry)) (numbers .last) (saying kind field) (now (frame .entry)) (now (output .entry)) ⌝ }
+    ensures { λ r. ⌜ leaving r (now (image .exit)) (now (output .exit)) ≡ checked (now (image .entry)) (numbers .last) said (now (frame .entry)) (now (output .entry)) ⌝ }
 {
-    let admission = admit_receiving(image, numbers, kind, field, frame);
+    let admission = admit_receiving(image, numbers, said, frame);
     match admission {
         Admission::Refused(answer) => refused(answer, numbers),
         Admission::To(framing, entry) => {
@@ -39,12 +38,11 @@ pub fn check_by(
 pub fn check(
     image: &mut [u8],
     numbers: Numbers,
-    kind: u8,
-    field: bool,
+    said: Said,
     frame: &[u8],
     output: &mut [u8],
 ) -> Outcome
-    ensures { λ r. ⌜ leaving r (now (image .exit)) (now (output .exit)) ≡ checked (now (image .entry)) (numbers .last) (saying kind field) (now (frame .entry)) (now (output .entry)) ⌝ }
+    ensures { λ r. ⌜ leaving r (now (image .exit)) (now (output .exit)) ≡ checked (now (image .entry)) (numbers .last) said (now (frame .entry)) (now (output .entry)) ⌝ }
 {
-    check_by(&[], image, numbers, kind, field, frame, output)
+    check_by(&[], image, numbers, said, frame, output)
 }

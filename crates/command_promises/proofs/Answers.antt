@@ -1,6 +1,6 @@
 -- A command answers the first rule that is broken: each test of the definitions is a rule of the promise, and they come in the same order.
 -- Assumes nothing.
-use Prim.Native.Nat.{ℕ, _+_, _-_, _≤_}
+use Prim.Native.Nat.{ℕ, _+_, _≤_}
 use mathlib.Core.Path.{_≡_, refl, sym, ap, subst, _∙_}
 use mathlib.Core.Logic.{_⊎_, inl, inr}
 use mathlib.Core.Bool.{Bool, true, false, cond, not, _&&_}
@@ -30,17 +30,19 @@ use Rattle.procedures.specs.declared.procedure.Called.the-variants as calls
 use Rattle.procedures.specs.declared.procedure.Procedure as code
 use Rattle.procedures.specs.declared.procedure.Procedure.the-variants as procedure
 use Rattle.procedures.proofs.Calling.{called-so, called-parts, called-measured, called-sized, called-long}
-use Rattle.commands.specs.Commanding.{callsNone, entryNamed, isNothing, testsAt, commandReply, commanded}
+use Rattle.addressing.specs.Addressing.{wrongDesk, callsNone, entryNamed, isNothing}
+use Rattle.commands.specs.Commanding.{testsAt, commandReply, commanded}
 use Rattle.commands.proofs.Done.{spi-found, spi-missing}
 use Rattle.promises.specs.Answers.{Rules, rule, noMore}
 use Rattle.promises.specs.Images.{stateAt, lastAt, BodyRules, ImageRules}
 use Rattle.promises.proofs.Answers.{Numbered, exactly, step, next-rule, last-done, differ}
 use Rattle.promises.proofs.Fields.{state-at}
-use Rattle.promises.proofs.Valids.{rules-kept, rules-valid, agreement, agreement-tested}
+use Rattle.promises.proofs.Valids.{rules-kept, rules-valid, agreement, agreement-tested, named-kept, named-tested}
 use Rattle.command_promises.specs.Answers.{rowIn, FormRules, About, commandRules, CommandAnswers}
 use Rattle.command_promises.specs.Rows.{Names}
 use Rattle.command_promises.proofs.Refusals.{command-refusals}
 use Rattle.command_promises.proofs.Rows.{Fits, row-fits, no-size}
+use Rattle.command_promises.proofs.Seats.{seat-kept, seat-tested}
 use Rattle.command_promises.proofs.Shifted.{shifted}
 
 -- ---- 13: the form
@@ -121,18 +123,18 @@ entryless procedure.Inventory n image value d e = (refl, refl)
 
 -- ---- the rules behind the entry
 
-abbrev under : List ℕ → List ℕ → (ℕ → Type 0) → Type 0
-under image command kept = (e : ℕ) → About image command e → kept e
+abbrev under : List ℕ → ℕ → List ℕ → (ℕ → Type 0) → Type 0
+under image desk command kept = (e : ℕ) → About image desk command e → kept e
 
-abbrev behind : List ℕ → List ℕ → List ℕ → List ℕ → Rules
-behind image numbers command output =
-    rule answer.WrongState (under image command (λ e. rowIn command .State (stateAt image e)))
-    (rule answer.BadValue (under image command (rowIn command .Value image numbers command))
-    (rule answer.UnknownKey (under image command (rowIn command .Known image command))
-    (rule answer.WrongKeyState (under image command (rowIn command .Ready image command))
+abbrev behind : List ℕ → List ℕ → ℕ → List ℕ → List ℕ → Rules
+behind image numbers desk command output =
+    rule answer.WrongState (under image desk command (λ e. rowIn command .State (stateAt image e)))
+    (rule answer.BadValue (under image desk command (rowIn command .Value image numbers command))
+    (rule answer.UnknownKey (under image desk command (rowIn command .Known image command))
+    (rule answer.WrongKeyState (under image desk command (rowIn command .Ready image command))
     (rule answer.NoRoom (rowIn command .reply image command ≤ length output) noMore))))
 
-module _ (image numbers command output : List ℕ) (octets : Octets image) (rules : ImageRules image) (p : code.Procedure)
+module _ (image numbers : List ℕ) (desk : ℕ) (command output : List ℕ) (octets : Octets image) (rules : ImageRules image) (p : code.Procedure)
     (c : called command ≡ calls.Procedure p) where
   abbrev value : List ℕ
   value = valueOf command
@@ -147,7 +149,7 @@ module _ (image numbers command output : List ℕ) (octets : Octets image) (rule
   spi-shifted = shifted command 0 2
 
   -- in a valid image one entry has the SPI
-  once : (d e : ℕ) → Names image command d → Names image command e → d ≡ e
+  once : (d e : ℕ) → Names image desk command d → Names image desk command e → d ≡ e
   once d e a b = spi-once image (valid image passed) d e (a .entry) (b .entry) (a .spi ∙ sym (b .spi))
 
   abbrev room : ℕ
@@ -168,9 +170,9 @@ module _ (image numbers command output : List ℕ) (octets : Octets image) (rule
       last-done
 
   -- what is asked at an entry that the command is about, if what holds of it holds of each
-  rest : (d : ℕ) → (procedureIs p .names ≡ true → BodyRules image d) → About image command d
-      → ((e : ℕ) → About image command e → (e ≡ d) ⊎ (procedureIs p .names ≡ false))
-      → Numbered (behind image numbers command output) (first (testsAt (procedureIs p) image numbers d value room))
+  rest : (d : ℕ) → (procedureIs p .names ≡ true → BodyRules image d) → About image desk command d
+      → ((e : ℕ) → About image desk command e → (e ≡ d) ⊎ (procedureIs p .names ≡ false))
+      → Numbered (behind image numbers desk command output) (first (testsAt (procedureIs p) image numbers d value room))
   rest d body about all =
       let asked : Bool = procedureIs p .asks (stateOf (bodyOf image d)) in
       next-rule answer.WrongState (not asked) _ _ _
@@ -214,16 +216,17 @@ module _ (image numbers command output : List ℕ) (octets : Octets image) (rule
       keys-same e (inr none) = entryless p none image value e d
 
   abbrev Entry : Type 0
-  Entry = (e : ℕ) × About image command e
+  Entry = (e : ℕ) × About image desk command e
 
   abbrev after-form : Found → ℕ
   after-form x = first ((14, isNothing x) ∷ testsAt (procedureIs p) image numbers (indexOf x) value room)
 
-  by-found : procedureIs p .names ≡ true → (x : Found) → withSpi image (spiNamed value) ≡ x
-      → Numbered (rule answer.UnknownSpi Entry (behind image numbers command output)) (after-form x)
+  by-found : procedureIs p .names ≡ true → (x : Found) → withSpi image desk (spiNamed value) ≡ x
+      → Numbered (rule answer.UnknownSpi Entry (behind image numbers desk command output)) (after-form x)
   by-found n (found.At d) e =
-      let f = spi-found image (spiNamed value) d e in
-      let names : Names image command d = record { entry = f .0; spi = f .1 ∙ spi-shifted } in
+      let f = spi-found image desk (spiNamed value) d e in
+      let has = named-kept image desk (spiNamed value) d (f .1) in
+      let names : Names image desk command d = record { entry = f .0; spi = has .0 ∙ spi-shifted; seen = has .1 } in
       next-rule answer.UnknownSpi false _ Entry _ (λ t k. differ false t refl) (λ t. (d, λ so. names))
       (rest d (λ named. rules .body d (f .0)) (λ so. names) (λ k m. inl (once k d (m (sym (row .named) ∙ n)) names)))
   by-found n found.Nothing e =
@@ -232,24 +235,25 @@ module _ (image numbers command output : List ℕ) (octets : Octets image) (rule
       missing : Entry → ⊥
       missing (d, about) =
           let names = about (sym (row .named) ∙ n) in
-          spi-missing image (spiNamed value) e d (names .entry) (names .spi ∙ sym spi-shifted)
+          differ _ (named-tested image desk (spiNamed value) d (names .spi ∙ sym spi-shifted) (names .seen))
+          (spi-missing image desk (spiNamed value) e d (names .entry))
 
-  entry-rules : Numbered (rule answer.UnknownSpi Entry (behind image numbers command output)) (after-form (entryNamed (procedureIs p) image value))
+  entry-rules : Numbered (rule answer.UnknownSpi Entry (behind image numbers desk command output)) (after-form (entryNamed (procedureIs p) image desk value))
   unfolding entryNamed
   entry-rules = by-names (procedureIs p .names) refl
     where
       by-names : (t : Bool) → procedureIs p .names ≡ t
-          → Numbered (rule answer.UnknownSpi Entry (behind image numbers command output))
-          (after-form (cond t (withSpi image (spiNamed value)) (found.At 0)))
-      by-names true n = by-found n (withSpi image (spiNamed value)) refl
+          → Numbered (rule answer.UnknownSpi Entry (behind image numbers desk command output))
+          (after-form (cond t (withSpi image desk (spiNamed value)) (found.At 0)))
+      by-names true n = by-found n (withSpi image desk (spiNamed value)) refl
       by-names false n =
-          let about : About image command 0 = λ so. absurd (differ (procedureIs p .names) (row .named ∙ so) n) in
+          let about : About image desk command 0 = λ so. absurd (differ (procedureIs p .names) (row .named ∙ so) n) in
           next-rule answer.UnknownSpi false _ Entry _ (λ t k. differ false t refl) (λ t. (0, about)) (rest 0 (λ named. absurd (differ (procedureIs p .names) named n)) about (λ e m. inr n))
 
 -- ---- all of them, in their order
 
-module _ (image numbers command output : List ℕ) (octets : Octets image) where
-  command-rules : Numbered (commandRules image numbers command output) (commandReply image numbers command (length output) .answer)
+module _ (image numbers : List ℕ) (desk : ℕ) (command output : List ℕ) (octets : Octets image) where
+  command-rules : Numbered (commandRules image numbers desk command output) (commandReply image numbers desk command (length output) .answer)
   unfolding commandReply
   command-rules =
       step answer.BadImage (not (validImage image)) _ _ _
@@ -260,20 +264,23 @@ module _ (image numbers command output : List ℕ) (octets : Octets image) where
         next-rule answer.BadMarks (not (agrees image numbers)) _ _ _
             (λ t k. differ _ (agreement-tested image numbers octets k) (not-true (agrees image numbers) t))
             (λ t. agreement image numbers octets (not-false (agrees image numbers) t))
-            (by-called rules (called command) refl),
+            (next-rule answer.WrongDesk (wrongDesk desk command) _ _ _
+            (λ t k. differ (wrongDesk desk command) t (seat-tested desk command k))
+            (λ t. seat-kept desk command t)
+            (by-called rules (called command) refl)),
       ))
     where
       by-called : ImageRules image → (x : Called) → called command ≡ x
           → Numbered
           (rule answer.BadCommand (FormRules command)
-          (rule answer.UnknownSpi ((e : ℕ) × About image command e) (behind image numbers command output)))
+          (rule answer.UnknownSpi ((e : ℕ) × About image desk command e) (behind image numbers desk command output)))
           (first
           ((13, callsNone x)
-          ∷ (14, isNothing (entryNamed (procedureBehind x) image (valueOf command)))
-          ∷ testsAt (procedureBehind x) image numbers (indexOf (entryNamed (procedureBehind x) image (valueOf command))) (valueOf command) (length output)))
+          ∷ (14, isNothing (entryNamed (procedureBehind x) image desk (valueOf command)))
+          ∷ testsAt (procedureBehind x) image numbers (indexOf (entryNamed (procedureBehind x) image desk (valueOf command))) (valueOf command) (length output)))
       by-called rules (calls.Procedure p) c =
           next-rule answer.BadCommand false _ (FormRules command) _ (λ t k. differ false t refl) (λ t. formed command p c)
-          (entry-rules image numbers command output octets rules p c)
+          (entry-rules image numbers desk command output octets rules p c)
       by-called rules calls.Nothing c =
           step answer.BadCommand true _ (FormRules command) _ (λ t f. calls-some command f c) (λ t. absurd (differ true refl t))
 
@@ -281,9 +288,9 @@ pub command-answers : CommandAnswers
 unfolding commanded
 command-answers =
     record {
-      commanding = λ image numbers command output octets.
-          exactly (commandRules image numbers command output) (commanded image numbers command output)
-          (λ refuse. let u = command-refusals .whole image numbers command output refuse in (u .length, u .stores)) refl
-          (rw (left-answer (commandReply image numbers command (length output)) image numbers output)
-          (command-rules image numbers command output octets));
+      commanding = λ image numbers desk command output octets.
+          exactly (commandRules image numbers desk command output) (commanded image numbers desk command output)
+          (λ refuse. let u = command-refusals .whole image numbers desk command output refuse in (u .length, u .stores)) refl
+          (rw (left-answer (commandReply image numbers desk command (length output)) image numbers output)
+          (command-rules image numbers desk command output octets));
     }

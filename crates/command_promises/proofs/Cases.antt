@@ -7,7 +7,8 @@ use Rattle.named_keys.specs.NamedKeys.{unserved}
 use Rattle.inventory.specs.Inventory.{passing, inventory}
 use Rattle.writing.specs.Text.{endToEnd}
 use Rattle.procedures.specs.Procedures.{withTag, called}
-use Rattle.commands.specs.Commanding.{entryNamed, commandReply, commanded, commandedCut}
+use Rattle.addressing.specs.Addressing.{entryNamed}
+use Rattle.commands.specs.Commanding.{commandReply, commanded, commandedCut}
 use Rattle.promises.proofs.Computing.{everything}
 use Rattle.command_promises.specs.Cases.{commandCases, CommandCasesHold}
 

@@ -19,10 +19,11 @@ use Rattle.image.proofs.ValidImages.{valid}
 use Rattle.marks.specs.Stores.{stored}
 use Rattle.marks.specs.declared.plans.Store.{Store}
 use Rattle.numbers.proofs.LoadedNumbers.{agreed}
+use Rattle.association.proofs.Finding.{has-spi}
 use Rattle.judging.specs.Replies.{Reply}
 use Rattle.link.specs.Calls.{done, left, cut, loaded}
 use Rattle.link.proofs.Leaving.{left-done, left-refused, cut-done, cut-refused}
-use Rattle.command_form.specs.Form.{valueOf}
+use Rattle.command_form.specs.Form.{valueOf, spiNamed}
 use Rattle.procedures.specs.Procedures.{keyStateIn, procedureIs}
 use Rattle.procedures.specs.declared.procedure.Procedure as code
 use Rattle.procedures.specs.declared.procedure.Called.the-variants as calls
@@ -65,7 +66,7 @@ from-frames e x y shown (frame.loads is low high) = loads (rw is refl) low high
 from-frames e x y shown (frame.sends passed one is new) = sends passed one (rw is refl) new
 from-frames e x y shown (frame.frees n passed two is up new) = frees n passed two (rw is refl) up new
 
-module _ (e : ℕ) (x : State) (inv : Inv x) (below : e < countIn (x .image)) (c output : List ℕ) (spoken : Octets c) where
+module _ (e : ℕ) (x : State) (inv : Inv x) (below : e < countIn (x .image)) (desk : ℕ) (c output : List ℕ) (spoken : Octets c) where
   abbrev s : List ℕ
   s = x .image
 
@@ -73,7 +74,7 @@ module _ (e : ℕ) (x : State) (inv : Inv x) (below : e < countIn (x .image)) (c
   last = x .numbers
 
   abbrev q : Reply
-  q = commandReply s last c (length output)
+  q = commandReply s last desk c (length output)
 
   abbrev after-all : List ℕ
   after-all = set last (q .entry) (q .number)
@@ -90,7 +91,7 @@ module _ (e : ℕ) (x : State) (inv : Inv x) (below : e < countIn (x .image)) (c
 
   module _ (z : q .answer ≡ 0) where
     passed : validImage s ≡ true
-    passed = valid-so x inv c output spoken z
+    passed = valid-so x inv desk c output spoken z
 
     good : Good s last
     good = inv .good passed
@@ -105,8 +106,8 @@ module _ (e : ℕ) (x : State) (inv : Inv x) (below : e < countIn (x .image)) (c
 
     -- ---- the number once it is done
 
-    number-up : Where s last c q → lastAt last e ≤ lastAt after-all e
-    number-up (at p i calls named listed spi ready is) = rw is (by-entry (ℕ-discrete e i))
+    number-up : Where s last desk c q → lastAt last e ≤ lastAt after-all e
+    number-up (at p i calls named listed has ready is) = rw is (by-entry (ℕ-discrete e i))
       where
         by-entry : Dec (e ≡ i) → lastAt last e ≤ lastAt (set last i (numberFor (procedureIs p) last i (valueOf c))) e
         by-entry (yes own) =
@@ -117,13 +118,13 @@ module _ (e : ℕ) (x : State) (inv : Inv x) (below : e < countIn (x .image)) (c
     number-up (nowhere none same) = rw same (omega arith)
     number-up (turning id state one turns same) = rw same (omega arith)
 
-    number-same : ours ≡ false → Where s last c q → lastAt after-all e ≡ lastAt last e
-    number-same not-ours (at p i calls named listed spi ready is) = rw is (by-entry (ℕ-discrete e i))
+    number-same : ours ≡ false → Where s last desk c q → lastAt after-all e ≡ lastAt last e
+    number-same not-ours (at p i calls named listed has ready is) = rw is (by-entry (ℕ-discrete e i))
       where
         by-entry : Dec (e ≡ i) → lastAt (set last i (numberFor (procedureIs p) last i (valueOf c))) e ≡ lastAt last e
         by-entry (yes own) =
             let inside : i < length last = omega (arith, good .thirtyTwo, valid s passed .laid .count, listed) in
-            let same = does p s last i (valueOf c) named ready .same (other-tag not-ours p calls (sym spi ∙ ap (spiAt s) (sym own))) in
+            let same = does p s last i (valueOf c) named ready .same (other-tag not-ours p calls (sym (has-spi s desk (spiNamed (valueOf c)) i has .0) ∙ ap (spiAt s) (sym own))) in
             rw own (getD-set-same last i (numberFor (procedureIs p) last i (valueOf c)) 0 inside ∙ same)
         by-entry (no other) = getD-set-other last i e (numberFor (procedureIs p) last i (valueOf c)) 0 other
     number-same not-ours (nowhere none same) = rw same refl
@@ -134,9 +135,9 @@ module _ (e : ℕ) (x : State) (inv : Inv x) (below : e < countIn (x .image)) (c
     abbrev stopped : ℕ → List ℕ
     stopped j = stored s (take j (q .stores))
 
-    mark-up : (j : ℕ) → Where s last c q → markIn s e ≤ markIn (stopped j) e
+    mark-up : (j : ℕ) → Where s last desk c q → markIn s e ≤ markIn (stopped j) e
     unfolding stored
-    mark-up j (at p i calls named listed spi ready is) = rw is (by-entry (ℕ-discrete e i))
+    mark-up j (at p i calls named listed has ready is) = rw is (by-entry (ℕ-discrete e i))
       where
         by-entry : Dec (e ≡ i) → markIn s e ≤ markIn (stored s (take j (storesOf (procedureIs p) s last i (valueOf c)))) e
         by-entry (yes own) = rw own (does p s last i (valueOf c) named ready .after j .rises)
@@ -147,22 +148,22 @@ module _ (e : ℕ) (x : State) (inv : Inv x) (below : e < countIn (x .image)) (c
         (first-of-one (λ (t : List ℕ). markIn s e ≤ markIn t e) s (keyStateIn s id state) (omega arith)
         (omega (arith, marks-stay s id state turns e below)) j)
 
-    mark-same : (j : ℕ) → ours ≡ false → Where s last c q → markIn (stopped j) e ≡ markIn s e
+    mark-same : (j : ℕ) → ours ≡ false → Where s last desk c q → markIn (stopped j) e ≡ markIn s e
     unfolding stored
-    mark-same j not-ours (at p i calls named listed spi ready is) = rw is (by-entry (ℕ-discrete e i))
+    mark-same j not-ours (at p i calls named listed has ready is) = rw is (by-entry (ℕ-discrete e i))
       where
         by-entry : Dec (e ≡ i) → markIn (stored s (take j (storesOf (procedureIs p) s last i (valueOf c)))) e ≡ markIn s e
-        by-entry (yes own) = rw own (does p s last i (valueOf c) named ready .stands (other-tag not-ours p calls (sym spi ∙ ap (spiAt s) (sym own))) j)
+        by-entry (yes own) = rw own (does p s last i (valueOf c) named ready .stands (other-tag not-ours p calls (sym (has-spi s desk (spiNamed (valueOf c)) i has .0) ∙ ap (spiAt s) (sym own))) j)
         by-entry (no other) = does p s last i (valueOf c) named ready .after j .otherMark e other
     mark-same j not-ours (nowhere none same) = rw (none, take-nil {A = Store} j) refl
     mark-same j not-ours (turning id state one turns same) =
         rw one
         (first-of-one (λ (t : List ℕ). markIn t e ≡ markIn s e) s (keyStateIn s id state) refl (marks-stay s id state turns e below) j)
 
-    reloaded : (j : ℕ) (any : List ℕ) → Where s last c q
+    reloaded : (j : ℕ) (any : List ℕ) → Where s last desk c q
         → lastAt (loaded (stopped j) any .numbers) e ≡ 64 * markIn (stopped j) e + 63
     unfolding stored
-    reloaded j any (at p i calls named listed spi ready is) =
+    reloaded j any (at p i calls named listed has ready is) =
         let m = does p s last i (valueOf c) named ready .after j in
         rw is (loaded-last (stored s (take j (storesOf (procedureIs p) s last i (valueOf c)))) any (m .valid) e (rw (m .count) below))
     reloaded j any (nowhere none same) = rw (none, take-nil {A = Store} j) (loaded-last s any passed e below)
@@ -174,13 +175,13 @@ module _ (e : ℕ) (x : State) (inv : Inv x) (below : e < countIn (x .image)) (c
 
   -- ---- a command, whole and cut
 
-  command-effect : Effect e x (kept (commanded s last c output)) (cond (setsNumber e x c output) (numbered ∷ []) [])
+  command-effect : Effect e x (kept (commanded s last desk c output)) (cond (setsNumber e x desk c output) (numbered ∷ []) [])
   unfolding commanded
   command-effect = by-answer (ℕ-discrete (q .answer) 0)
     where
       by-ours : (z : q .answer ≡ 0) (t : Bool) → ours ≡ t → Effect e x (kept (done q s last output)) (cond t (numbered ∷ []) [])
-      by-ours z true t = raises refl (number-up z (where-done x inv c output spoken z))
-      by-ours z false t = quiet refl (number-same z t (where-done x inv c output spoken z))
+      by-ours z true t = raises refl (number-up z (where-done x inv desk c output spoken z))
+      by-ours z false t = quiet refl (number-same z t (where-done x inv desk c output spoken z))
 
       by-answer : Dec (q .answer ≡ 0)
           → Effect e x (kept (left q s last output)) (cond (eqb (left q s last output .answer) 0 && ours) (numbered ∷ []) [])
@@ -188,19 +189,19 @@ module _ (e : ℕ) (x : State) (inv : Inv x) (below : e < countIn (x .image)) (c
       by-answer (no z) = rw (left-refused q s last output z, ne-eqb (q .answer) 0 z) (quiet refl refl)
 
   cut-effect : (j : ℕ) (any : List ℕ)
-      → Effect e x (kept (loaded (commandedCut s last c output j) any))
-      (cond (setsNumber e x c output) (numbered ∷ saw restart ∷ []) (saw restart ∷ []))
+      → Effect e x (kept (loaded (commandedCut s last desk c output j) any))
+      (cond (setsNumber e x desk c output) (numbered ∷ saw restart ∷ []) (saw restart ∷ []))
   unfolding commanded commandedCut
   cut-effect j any = by-answer (ℕ-discrete (q .answer) 0)
     where
       by-ours : (z : q .answer ≡ 0) (t : Bool) → ours ≡ t
           → Effect e x (kept (loaded (stopped z j) any)) (cond t (numbered ∷ saw restart ∷ []) (saw restart ∷ []))
       by-ours z true t =
-          let w = where-done x inv c output spoken z in
+          let w = where-done x inv desk c output spoken z in
           let up = mark-up z j w in
           raisesCut refl (λ passed. omega (arith, reloaded z j any w, agreed s last (good z .agree) e below))
       by-ours z false t =
-          let w = where-done x inv c output spoken z in
+          let w = where-done x inv desk c output spoken z in
           let same = mark-same z j t w in
           loads refl (λ passed. omega (arith, reloaded z j any w, agreed s last (good z .agree) e below))
           (λ passed one. omega (arith, reloaded z j any w, agreed s last (good z .agree) e below))
@@ -217,5 +218,5 @@ pub effect : (e : ℕ) (x : State) (v : Step) → Spoken v → Inv x → e < cou
 unfolding after shows Spoken
 effect e x (call v) spoken inv below =
     from-frames e x (frames.after x v) (frames.shows e x v) (frame.effect e x v inv below)
-effect e x (command c output) spoken inv below = command-effect e x inv below c output spoken
-effect e x (commandCut c output j any) spoken inv below = cut-effect e x inv below c output spoken j any
+effect e x (command desk c output) spoken inv below = command-effect e x inv below desk c output spoken
+effect e x (commandCut desk c output j any) spoken inv below = cut-effect e x inv below desk c output spoken j any

@@ -60,8 +60,8 @@ never-falls e (v ∷ vs) x o inv passed below =
 with-first : (v : Step) (vs : List Step) → Spoken v → OfOctets vs → OfOctets (v ∷ vs)
 unfolding OfOctets Spoken
 with-first (call v) vs spoken o = o
-with-first (command c output) vs spoken o = (spoken, o)
-with-first (commandCut c output j any) vs spoken o = (spoken, o)
+with-first (command desk c output) vs spoken o = (spoken, o)
+with-first (commandCut desk c output j any) vs spoken o = (spoken, o)
 
 front-spoken : (vs ws : List Step) → OfOctets (vs ++ ws) → OfOctets vs
 unfolding OfOctets

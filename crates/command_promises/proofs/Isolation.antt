@@ -2,6 +2,7 @@
 -- agree in these give the same answer. How many stores it makes does not depend on where the body stands.
 -- Assumes nothing.
 use Prim.Native.Nat.{ℕ, zero, suc, _+_, _-_, _/_, _≤_, _<_}
+use mathlib.Core.Logic.{inl, inr}
 use mathlib.Core.Path.{_≡_, refl, sym, ap, ap₂, _∙_}
 use mathlib.Core.Bool.{Bool, true, false, cond, not, _&&_, _||_, true≢false}
 use mathlib.Core.List.{List, [], _∷_}
@@ -37,33 +38,36 @@ use Rattle.procedures.specs.declared.procedure.Called.the-variants as calls
 use Rattle.procedures.specs.declared.procedure.Procedure as code
 use Rattle.procedures.specs.declared.procedure.Procedure.the-variants as procedure
 use Rattle.procedures.proofs.Calling.{called-parts, called-tag}
-use Rattle.commands.specs.Commanding.{entryNamed, addressTests, commandReply, commanded}
+use Rattle.addressing.specs.Addressing.{wrongDesk, entryNamed, addressTests}
+use Rattle.commands.specs.Commanding.{commandReply, commanded}
 use Rattle.commands.specs.Steps.{replyUnder}
-use Rattle.commands.proofs.Addressing.{by-13, by-14, addresses, command-under}
+use Rattle.addressing.proofs.Passing.{by-19, by-13, by-14, addresses}
+use Rattle.commands.proofs.Addressing.{command-under}
 use Rattle.commands.proofs.Done.{spi-found, spi-at}
 use Rattle.promises.specs.Images.{versionIn, wholeBodyAt, lastAt, keyCountIn, keyFrom}
 use Rattle.promises.specs.Isolation.{Standing, SameAnswer}
 use Rattle.promises.proofs.Fields.{body-is, key-count, key-index, key-state}
-use Rattle.promises.proofs.Valids.{rules-valid, agreement-tested}
+use Rattle.promises.proofs.Valids.{rules-valid, agreement-tested, named-kept, named-tested}
 use Rattle.command_promises.specs.Answers.{rowIn}
 use Rattle.command_promises.specs.Isolation.{SameNamed, both, neither, none, SameKeys, CommandIsolation}
 use Rattle.command_promises.specs.Rows.{Names, keyNamed}
 use Rattle.command_promises.proofs.Inventories.{inventory-is, same-inventory}
 use Rattle.command_promises.proofs.NamedKeys.{unserved-so, so-unserved}
 use Rattle.command_promises.proofs.Rows.{Fits, row-fits}
+use Rattle.command_promises.proofs.Seats.{seat-kept}
 use Rattle.command_promises.proofs.Shifted.{shifted}
 
 -- ---- two replies that report and hand out the same
 
-record Given (q r : Reply) : Type 0 where
-  stores : length (q .stores) ≡ length (r .stores)
-  size : q .size ≡ r .size
-  result : q .result ≡ r .result
-  long : length (q .result) ≡ q .size
+pub record Given (q r : Reply) : Type 0 where
+  pub stores : length (q .stores) ≡ length (r .stores)
+  pub size : q .size ≡ r .size
+  pub result : q .result ≡ r .result
+  pub long : length (q .result) ≡ q .size
 
-record Alike (q r : Reply) : Type 0 where
-  answer : q .answer ≡ r .answer
-  given : q .answer ≡ 0 → Given q r
+pub record Alike (q r : Reply) : Type 0 where
+  pub answer : q .answer ≡ r .answer
+  pub given : q .answer ≡ 0 → Given q r
 
 same-left : (q r : Reply) (s l o t k p : List ℕ) → Alike q r → SameAnswer (left q s l o) (left r t k p)
 same-left q r s l o t k p a = by-answer (ℕ-discrete (q .answer) 0)
@@ -135,7 +139,7 @@ equal true b f g = sym (f refl)
 equal false true f g = g refl
 equal false false f g = refl
 
-module _ (s t c : List ℕ) (same : SameKeys s t c) where
+module _ (s t : List ℕ) (desk : ℕ) (c : List ℕ) (same : SameKeys s t desk c) where
   from-same : (id k n : ℕ) → k + n ≤ keyCountIn s → keyFrom s id k n ≡ keyFrom t id k n
   unfolding keyFrom
   from-same id k zero h = refl
@@ -177,12 +181,12 @@ module _ (s t c : List ℕ) (same : SameKeys s t c) where
   active-same : layout s .keys ≡ layout t .keys → (id : ℕ) → keyActive s id ≡ keyActive t id
   active-same parts id = ap₂ (λ (a b : Bool). not a || b) parts (in-same 1 id)
 
-  freed-same : validImage s ≡ true → validImage t ≡ true → octet c 0 ≡ 0x03 → (id : ℕ) → id ≡ keyNamed c → freed s id ≡ freed t id
-  freed-same here there tag id is =
+  freed-same : validImage s ≡ true → validImage t ≡ true → desk ≡ 0 → octet c 0 ≡ 0x03 → (id : ℕ) → id ≡ keyNamed c → freed s id ≡ freed t id
+  freed-same here there office tag id is =
       ap₂ _&&_ (in-same 1 id)
       (equal (unserved s id) (unserved t id)
-      (λ e. so-unserved t there id (λ j serving. let x = same .there tag j (rw is at serving) in unserved-so s here id e (x .0) (rw is (x .1))))
-      (λ e. so-unserved s here id (λ i serving. let x = same .here tag i (rw is at serving) in unserved-so t there id e (x .0) (rw is (x .1)))))
+      (λ e. so-unserved t there id (λ j serving. let x = same .there office tag j (rw is at serving) in unserved-so s here id e (x .0) (rw is (x .1))))
+      (λ e. so-unserved s here id (λ i serving. let x = same .here office tag i (rw is at serving) in unserved-so t there id e (x .0) (rw is (x .1)))))
 
   -- of a procedure that names an association
   module _ (parts : layout s .keys ≡ layout t .keys) (i j : ℕ) (ids : keyIdIn s i ≡ keyIdIn t j) (value : List ℕ) where
@@ -207,7 +211,7 @@ module _ (s t c : List ℕ) (same : SameKeys s t c) where
     same-key procedure.Inventory n = (refl, refl)
 
   -- a procedure that names no association reads none
-  module _ (here : validImage s ≡ true) (there : validImage t ≡ true) (l r : List ℕ) (room : ℕ) where
+  module _ (here : validImage s ≡ true) (there : validImage t ≡ true) (seated : wrongDesk desk c ≡ false) (l r : List ℕ) (room : ℕ) where
     abbrev Unnamed : code.Procedure → Type 0
     Unnamed p = Alike (replyUnder p s l 0 (valueOf c) room) (replyUnder p t r 0 (valueOf c) room)
 
@@ -228,7 +232,8 @@ module _ (s t c : List ℕ) (same : SameKeys s t c) where
           given = λ z. record { stores = refl; size = refl; result = refl; long = refl };
         }
     unnaming procedure.Deactivation is e =
-        let free = freed-same here there (called-tag c procedure.Deactivation is) (asked.keyNamed (valueOf c)) (shifted c 0 2) in
+        let tag = called-tag c procedure.Deactivation is in
+        let free = freed-same here there (seat-kept desk c seated .office (inr (inl tag))) tag (asked.keyNamed (valueOf c)) (shifted c 0 2) in
         record {
           answer = rw (has-same (asked.keyNamed (valueOf c)), free) refl;
           given = λ z. record { stores = refl; size = refl; result = refl; long = refl };
@@ -249,7 +254,7 @@ module _ (s t c : List ℕ) (same : SameKeys s t c) where
 
 -- ---- one image in good standing
 
-module _ (image numbers c : List ℕ) (room : ℕ) (g : Standing image numbers) where
+module _ (image numbers : List ℕ) (desk : ℕ) (c : List ℕ) (room : ℕ) (g : Standing image numbers) where
   ok : validImage image ≡ true
   ok = rules-valid image (g .octets) (g .valid)
 
@@ -257,48 +262,55 @@ module _ (image numbers c : List ℕ) (room : ℕ) (g : Standing image numbers) 
   agree = agreement-tested image numbers (g .octets) (g .agree)
 
   abbrev q : Reply
-  q = commandReply image numbers c room
+  q = commandReply image numbers desk c room
 
-  refused-by : (n : ℕ) → 0 < n → first (addressTests image numbers c) ≡ n → q .answer ≡ n
+  refused-by : (n : ℕ) → 0 < n → first (addressTests image numbers desk c) ≡ n → q .answer ≡ n
   unfolding commandReply
-  refused-by n some e = stops (addressTests image numbers c) _ (omega arith) ∙ e
+  refused-by n some e = stops (addressTests image numbers desk c) _ (omega arith) ∙ e
 
-  calls-none : called c ≡ calls.Nothing → q .answer ≡ 13
-  calls-none e = refused-by 13 (omega arith) (by-13 image numbers c ok agree e)
+  no-seat : wrongDesk desk c ≡ true → q .answer ≡ 19
+  no-seat e = refused-by 19 (omega arith) (by-19 image numbers desk c ok agree e)
 
-  module _ (p : code.Procedure) (is : called c ≡ calls.Procedure p) where
-    reply-at : (e : ℕ) → entryNamed (procedureIs p) image (valueOf c) ≡ found.At e → q ≡ replyUnder p image numbers e (valueOf c) room
-    reply-at e f = sym (command-under image numbers c room p e (addresses image numbers c ok agree p is e f))
+  calls-none : wrongDesk desk c ≡ false → called c ≡ calls.Nothing → q .answer ≡ 13
+  calls-none seated e = refused-by 13 (omega arith) (by-13 image numbers desk c ok agree seated e)
 
-    named-at : procedureIs p .names ≡ true → (i : ℕ) → Names image c i → entryNamed (procedureIs p) image (valueOf c) ≡ found.At i
+  module _ (seated : wrongDesk desk c ≡ false) (p : code.Procedure) (is : called c ≡ calls.Procedure p) where
+    pub reply-at : (e : ℕ) → entryNamed (procedureIs p) image desk (valueOf c) ≡ found.At e → q ≡ replyUnder p image numbers e (valueOf c) room
+    reply-at e f = sym (command-under image numbers desk c room p e (addresses image numbers desk c ok agree seated p is e f))
+
+    pub named-at : procedureIs p .names ≡ true → (i : ℕ) → Names image desk c i → entryNamed (procedureIs p) image desk (valueOf c) ≡ found.At i
     unfolding entryNamed
-    named-at names i n = rw names (spi-at image (valid image ok) (spiNamed (valueOf c)) i (n .entry) (n .spi ∙ sym (shifted c 0 2)))
+    named-at names i n =
+        rw names
+        (spi-at image (valid image ok) desk (spiNamed (valueOf c)) i (n .entry)
+        (named-tested image desk (spiNamed (valueOf c)) i (n .spi ∙ sym (shifted c 0 2)) (n .seen)))
 
-    named-none : procedureIs p .names ≡ true → ((i : ℕ) → Names image c i → ⊥) → q .answer ≡ 14
+    named-none : procedureIs p .names ≡ true → ((i : ℕ) → Names image desk c i → ⊥) → q .answer ≡ 14
     unfolding entryNamed
-    named-none names no-one = refused-by 14 (omega arith) (by-14 image numbers c ok agree p is (rw names (by-answer (withSpi image (spiNamed (valueOf c))) refl)))
+    named-none names no-one = refused-by 14 (omega arith) (by-14 image numbers desk c ok agree seated p is (rw names (by-answer (withSpi image desk (spiNamed (valueOf c))) refl)))
       where
-        by-answer : (x : Found) → withSpi image (spiNamed (valueOf c)) ≡ x → x ≡ found.Nothing
+        by-answer : (x : Found) → withSpi image desk (spiNamed (valueOf c)) ≡ x → x ≡ found.Nothing
         by-answer (found.At i) e =
-            let f = spi-found image (spiNamed (valueOf c)) i e in
-            absurd (no-one i (record { entry = f .0; spi = f .1 ∙ shifted c 0 2 }))
+            let f = spi-found image desk (spiNamed (valueOf c)) i e in
+            let has = named-kept image desk (spiNamed (valueOf c)) i (f .1) in
+            absurd (no-one i (record { entry = f .0; spi = has .0 ∙ shifted c 0 2; seen = has .1 }))
         by-answer found.Nothing e = refl
 
-    unnamed : procedureIs p .names ≡ false → entryNamed (procedureIs p) image (valueOf c) ≡ found.At 0
+    unnamed : procedureIs p .names ≡ false → entryNamed (procedureIs p) image desk (valueOf c) ≡ found.At 0
     unfolding entryNamed
     unnamed names = rw names
 
 -- ---- two of them
 
-module _ (s l t r c : List ℕ) (room : ℕ) (here : Standing s l) (there : Standing t r) where
+module _ (s l t r : List ℕ) (desk : ℕ) (c : List ℕ) (room : ℕ) (here : Standing s l) (there : Standing t r) where
   abbrev x : Reply
-  x = commandReply s l c room
+  x = commandReply s l desk c room
 
   abbrev y : Reply
-  y = commandReply t r c room
+  y = commandReply t r desk c room
 
   -- the same body, read by the same version, and the same number
-  at-both : (p : code.Procedure) → procedureIs p .names ≡ true → SameKeys s t c → (i j : ℕ) → i < countOf s → j < countOf t
+  pub at-both : (p : code.Procedure) → procedureIs p .names ≡ true → SameKeys s t desk c → (i j : ℕ) → i < countOf s → j < countOf t
       → versionIn s ≡ versionIn t → wholeBodyAt s i ≡ wholeBodyAt t j → lastAt l i ≡ lastAt r j
       → Alike (replyUnder p s l i (valueOf c) room) (replyUnder p t r j (valueOf c) room)
   unfolding markIn
@@ -306,12 +318,12 @@ module _ (s l t r c : List ℕ) (room : ℕ) (here : Standing s l) (there : Stan
       let bodies : bodyOf s i ≡ bodyOf t j = body-is s i ∙ body ∙ sym (body-is t j) in
       let parts : layout s .keys ≡ layout t .keys = ap (λ (v : ℕ). layoutOf v .keys) version in
       let ids : keyIdIn s i ≡ keyIdIn t j = ap₂ keyIdOf version bodies in
-      let same = same-key s t c keys parts i j ids (valueOf c) p names in
+      let same = same-key s t desk c keys parts i j ids (valueOf c) p names in
       let reply = replied p names s t i j (lastAt r j) (valueOf c) bodies in
       let n : ℕ = procedureIs p .number (lastAt l i) (valueOf c) in
       let marks : markIn s i ≡ markIn t j = ap₂ (λ (v : ℕ) (b : List ℕ). markOf v b) version bodies in
       let raises : length (storesFor s i n) ≡ length (storesFor t j n) =
-      counted s i n (ok s l c room here) hi ∙ ap (λ (m : ℕ). n / 64 - m) marks ∙ sym (counted t j n (ok t r c room there) hj) in
+      counted s i n (ok s l desk c room here) hi ∙ ap (λ (m : ℕ). n / 64 - m) marks ∙ sym (counted t j n (ok t r desk c room there) hj) in
       record {
         answer = rw (version, bodies, number, same .0, same .1, reply) refl;
         given = λ z.
@@ -323,38 +335,43 @@ module _ (s l t r c : List ℕ) (room : ℕ) (here : Standing s l) (there : Stan
             };
       }
 
-  by-names : (p : code.Procedure) → called c ≡ calls.Procedure p → (b : Bool) → procedureIs p .names ≡ b → SameNamed s l t r c → SameKeys s t c
+  by-names : wrongDesk desk c ≡ false → (p : code.Procedure) → called c ≡ calls.Procedure p → (b : Bool) → procedureIs p .names ≡ b → SameNamed s l t r desk c → SameKeys s t desk c
       → Alike x y
-  by-names p is true n (both i j a b version body number) keys =
+  by-names seated p is true n (both i j a b version body number) keys =
       rw (
-        reply-at s l c room here p is i (named-at s l c room here p is n i a),
-        reply-at t r c room there p is j (named-at t r c room there p is n j b),
+        reply-at s l desk c room here seated p is i (named-at s l desk c room here seated p is n i a),
+        reply-at t r desk c room there seated p is j (named-at t r desk c room there seated p is n j b),
       )
       (at-both p n keys i j (a .entry) (b .entry) version body number)
-  by-names p is true n (neither a b) keys =
-      both-refused x y 14 (omega arith) (named-none s l c room here p is n a) (named-none t r c room there p is n b)
-  by-names p is true n (none unnamed-so) keys =
+  by-names seated p is true n (neither a b) keys =
+      both-refused x y 14 (omega arith) (named-none s l desk c room here seated p is n a) (named-none t r desk c room there seated p is n b)
+  by-names seated p is true n (none unnamed-so) keys =
       let f : Fits (procedureIs p) (rowIn c) = row-fits (tagOf c) p (called-parts c p is .0) in
       absurd (true≢false (sym n ∙ f .named ∙ unnamed-so))
-  by-names p is false n same keys =
+  by-names seated p is false n same keys =
       rw (
-        reply-at s l c room here p is 0 (unnamed s l c room here p is n),
-        reply-at t r c room there p is 0 (unnamed t r c room there p is n),
+        reply-at s l desk c room here seated p is 0 (unnamed s l desk c room here seated p is n),
+        reply-at t r desk c room there seated p is 0 (unnamed t r desk c room there seated p is n),
       )
-      (unnaming s t c keys (ok s l c room here) (ok t r c room there) l r room p is n)
+      (unnaming s t desk c keys (ok s l desk c room here) (ok t r desk c room there) seated l r room p is n)
 
-  alike : SameNamed s l t r c → SameKeys s t c → Alike x y
-  alike same keys = by-called (called c) refl
+  alike : SameNamed s l t r desk c → SameKeys s t desk c → Alike x y
+  alike same keys = by-desk (wrongDesk desk c) refl
     where
-      by-called : (k : Called) → called c ≡ k → Alike x y
-      by-called (calls.Procedure p) is = by-names p is (procedureIs p .names) refl same keys
-      by-called calls.Nothing is = both-refused x y 13 (omega arith) (calls-none s l c room here is) (calls-none t r c room there is)
+      by-called : wrongDesk desk c ≡ false → (k : Called) → called c ≡ k → Alike x y
+      by-called seated (calls.Procedure p) is = by-names seated p is (procedureIs p .names) refl same keys
+      by-called seated calls.Nothing is =
+          both-refused x y 13 (omega arith) (calls-none s l desk c room here seated is) (calls-none t r desk c room there seated is)
+
+      by-desk : (b : Bool) → wrongDesk desk c ≡ b → Alike x y
+      by-desk true w = both-refused x y 19 (omega arith) (no-seat s l desk c room here w) (no-seat t r desk c room there w)
+      by-desk false seated = by-called seated (called c) refl
 
 pub command-isolation : CommandIsolation
 unfolding commanded
 command-isolation =
     record {
-      commanding = λ image numbers other otherNumbers c output otherOutput here there long same keys.
-          same-left (commandReply image numbers c (length output)) (commandReply other otherNumbers c (length otherOutput)) image numbers output other
-          otherNumbers otherOutput (rw (← long) (alike image numbers other otherNumbers c (length output) here there same keys));
+      commanding = λ image numbers other otherNumbers desk c output otherOutput here there long same keys.
+          same-left (commandReply image numbers desk c (length output)) (commandReply other otherNumbers desk c (length otherOutput)) image numbers output other
+          otherNumbers otherOutput (rw (← long) (alike image numbers other otherNumbers desk c (length output) here there same keys));
     }

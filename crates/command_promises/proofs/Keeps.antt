@@ -56,19 +56,19 @@ module _ (x : State) (inv : Inv x) where
 
   -- ---- a command
 
-  module _ (c output : List ℕ) (spoken : Octets c) where
+  module _ (desk : ℕ) (c output : List ℕ) (spoken : Octets c) where
     abbrev q : Reply
-    q = commandReply s last c (length output)
+    q = commandReply s last desk c (length output)
 
     pub valid-so : q .answer ≡ 0 → validImage s ≡ true
-    valid-so z = deciding.done s last c (length output) z .valid
+    valid-so z = deciding.done s last desk c (length output) z .valid
 
-    pub where-done : q .answer ≡ 0 → Where s last c q
+    pub where-done : q .answer ≡ 0 → Where s last desk c q
     where-done z =
-        let d = deciding.done s last c (length output) z in
-        place s last c (length output) (inv .octets) spoken (inv .good (d .valid) .thirtyTwo) d
+        let d = deciding.done s last desk c (length output) z in
+        place s last desk c (length output) (inv .octets) spoken (inv .good (d .valid) .thirtyTwo) d
 
-    done-keeps : q .answer ≡ 0 → Where s last c q → Keeps x (kept (done q s last output))
+    done-keeps : q .answer ≡ 0 → Where s last desk c q → Keeps x (kept (done q s last output))
     unfolding stored
     done-keeps z (at p i calls named listed spi ready is) =
         let w = does p s last i (valueOf c) named ready in
@@ -105,7 +105,7 @@ module _ (x : State) (inv : Inv x) where
           same = same-turned s id state (turns .known);
         })
 
-    command-keeps : Keeps x (kept (commanded s last c output))
+    command-keeps : Keeps x (kept (commanded s last desk c output))
     unfolding commanded
     command-keeps = by-answer (ℕ-discrete (q .answer) 0)
       where
@@ -113,7 +113,7 @@ module _ (x : State) (inv : Inv x) where
         by-answer (yes z) = rw (left-done q s last output z) (done-keeps z (where-done z))
         by-answer (no z) = rw (left-refused q s last output z) unchanged
 
-    cut-at : (j : ℕ) (any : List ℕ) → q .answer ≡ 0 → Where s last c q → Keeps x (kept (loaded (stored s (take j (q .stores))) any))
+    cut-at : (j : ℕ) (any : List ℕ) → q .answer ≡ 0 → Where s last desk c q → Keeps x (kept (loaded (stored s (take j (q .stores))) any))
     unfolding stored
     cut-at j any z (at p i calls named listed spi ready is) =
         let m = does p s last i (valueOf c) named ready .after j in
@@ -128,7 +128,7 @@ module _ (x : State) (inv : Inv x) where
         (load-keeps _ any (turned-octets s id state turns (inv .octets)) (turned-valid s id state turns ∙ sym (valid-so z))
         (same-turned s id state (turns .known))) j)
 
-    cut-keeps : (j : ℕ) (any : List ℕ) → Keeps x (kept (loaded (commandedCut s last c output j) any))
+    cut-keeps : (j : ℕ) (any : List ℕ) → Keeps x (kept (loaded (commandedCut s last desk c output j) any))
     unfolding commandedCut
     cut-keeps j any = by-answer (ℕ-discrete (q .answer) 0)
       where
@@ -141,13 +141,13 @@ module _ (x : State) (inv : Inv x) where
 -- the command of a step is octets
 unfoldable pub Spoken : Step → Type 0
 Spoken (call v) = Unit {0}
-Spoken (command c output) = Octets c
-Spoken (commandCut c output j any) = Octets c
+Spoken (command desk c output) = Octets c
+Spoken (commandCut desk c output j any) = Octets c
 
 pub keeps : (x : State) (v : Step) → Spoken v → Inv x → Keeps x (after x v)
 unfolding after Spoken
 keeps x (call v) spoken inv =
     let k = frame.keeps x v inv in
     record { inv = k .inv; stays = k .stays; same = same-marks (x .image) (frames.after x v .image) (k .same) }
-keeps x (command c output) spoken inv = command-keeps x inv c output spoken
-keeps x (commandCut c output j any) spoken inv = cut-keeps x inv c output spoken j any
+keeps x (command desk c output) spoken inv = command-keeps x inv desk c output spoken
+keeps x (commandCut desk c output j any) spoken inv = cut-keeps x inv desk c output spoken j any

@@ -30,7 +30,8 @@ use Rattle.procedures.specs.declared.procedure.Called.the-variants as calls
 use Rattle.procedures.specs.declared.procedure.Procedure as code
 use Rattle.procedures.specs.declared.procedure.Procedure.the-variants as procedure
 use Rattle.procedures.proofs.Calling.{called-parts}
-use Rattle.commands.specs.Commanding.{entryNamed, replyAt, commandReply, commanded, commandedCut}
+use Rattle.addressing.specs.Addressing.{entryNamed}
+use Rattle.commands.specs.Commanding.{replyAt, commandReply, commanded, commandedCut}
 use Rattle.commands.proofs.Accepting.{Accepts}
 use Rattle.commands.proofs.Doing.{Ready, storesOf, numberFor, does, accepted-number, raises-count}
 use Rattle.commands.proofs.Done.{Done, done, Where, at, nowhere, turning, spi-at}
@@ -41,7 +42,7 @@ use Rattle.promises.specs.Images.{shapeIn, place, spiAt, keyAt, HasId, lastAt, 
 use Rattle.promises.specs.Leaves.{MarkAlone}
 use Rattle.promises.proofs.Fields.{shapes, stands, state-at, key-place}
 use Rattle.promises.proofs.Stored.{outside}
-use Rattle.promises.proofs.Valids.{code-of-mark, rules-kept, agreement}
+use Rattle.promises.proofs.Valids.{code-of-mark, rules-kept, agreement, named-tested}
 use Rattle.command_promises.specs.Leaves.{Lawfully, Leaves, SetsNumber, LeavesAt, CommandLeaving, writes, renames, inventoryReply}
 use Rattle.command_promises.proofs.Inventories.{inventory-is}
 use Rattle.command_promises.specs.Rows.{Names, keyNamed}
@@ -50,30 +51,30 @@ use Rattle.command_promises.proofs.Shifted.{shifted}
 
 -- ---- from what is decided to what is left
 
-module _ (image numbers c output : List ℕ) (z : commanded image numbers c output .answer ≡ 0) where
+module _ (image numbers : List ℕ) (desk : ℕ) (c output : List ℕ) (z : commanded image numbers desk c output .answer ≡ 0) where
   abbrev q : Reply
-  q = commandReply image numbers c (length output)
+  q = commandReply image numbers desk c (length output)
 
   pub decided-so : q .answer ≡ 0
   unfolding commanded
   decided-so = sym (left-answer q image numbers output) ∙ z
 
-  pub is-done : Done image numbers c (length output)
-  is-done = done image numbers c (length output) decided-so
+  pub is-done : Done image numbers desk c (length output)
+  is-done = done image numbers desk c (length output) decided-so
 
   pub passed : validImage image ≡ true
   passed = is-done .valid
 
-  pub carried : commanded image numbers c output ≡ link.done q image numbers output
+  pub carried : commanded image numbers desk c output ≡ link.done q image numbers output
   unfolding commanded
   carried = left-done q image numbers output decided-so
 
-  pub carried-cut : (j : ℕ) → commandedCut image numbers c output j ≡ stored image (take j (q .stores))
+  pub carried-cut : (j : ℕ) → commandedCut image numbers desk c output j ≡ stored image (take j (q .stores))
   unfolding commandedCut
   carried-cut j = cut-done q image j decided-so
 
   leaves : (stores : List Store) (last reply : List ℕ) → q .stores ≡ stores → set numbers (q .entry) (q .number) ≡ last → q .result ≡ reply
-      → Leaves image numbers c output stores last reply
+      → Leaves image numbers desk c output stores last reply
   leaves stores last reply s l r =
       let sized : q .size ≡ length (q .result) = rw (is-done .reply) refl in
       record {
@@ -97,10 +98,10 @@ module _ (image numbers c output : List ℕ) (z : commanded image numbers c outp
   -- ---- whatever the command
 
   module _ (octets : Octets image) (spoken : Octets c) (thirtyTwo : length numbers ≡ 32) where
-    pub where-done : Where image numbers c q
-    where-done = deciding.place image numbers c (length output) octets spoken thirtyTwo is-done
+    pub where-done : Where image numbers desk c q
+    where-done = deciding.place image numbers desk c (length output) octets spoken thirtyTwo is-done
 
-    pub cut-managed : (j : ℕ) → Where image numbers c q
+    pub cut-managed : (j : ℕ) → Where image numbers desk c q
         → (validImage (stored image (take j (q .stores))) ≡ true) × Octets (stored image (take j (q .stores)))
     unfolding stored
     cut-managed j (at p i calls named listed spi ready is) =
@@ -115,7 +116,7 @@ module _ (image numbers c output : List ℕ) (z : commanded image numbers c outp
     whole-managed : (validImage (stored image (q .stores)) ≡ true) × Octets (stored image (q .stores))
     whole-managed = rw (take-length (q .stores)) at (cut-managed (length (q .stores)) where-done)
 
-    whole-agrees : Where image numbers c q → Agreeing (stored image (q .stores)) (set numbers (q .entry) (q .number))
+    whole-agrees : Where image numbers desk c q → Agreeing (stored image (q .stores)) (set numbers (q .entry) (q .number))
     unfolding stored
     whole-agrees (at p i calls named listed spi ready is) =
         let w = does p image numbers i (valueOf c) named ready in
@@ -128,15 +129,15 @@ module _ (image numbers c output : List ℕ) (z : commanded image numbers c outp
         (agreement (turnedImage image id state) numbers (turned-octets image id state turns octets)
         (turned-agrees image numbers id state turns (is-done .agree)))
 
-    few : Where image numbers c q → length (q .stores) ≤ 16
+    few : Where image numbers desk c q → length (q .stores) ≤ 16
     few (at p i calls named listed spi ready is) = rw is (does p image numbers i (valueOf c) named ready .few)
     few (nowhere none same) = rw none (omega arith)
     few (turning id state one turns same) = rw one (omega arith)
 
-    pub octets-after : Octets (commanded image numbers c output .image)
+    pub octets-after : Octets (commanded image numbers desk c output .image)
     octets-after = rw carried (whole-managed .1)
 
-    lawfully : Lawfully image numbers c output
+    lawfully : Lawfully image numbers desk c output
     lawfully =
         record {
           valid = λ rules. rw carried (rules-kept (stored image (q .stores)) (whole-managed .1) (whole-managed .0));
@@ -148,7 +149,7 @@ module _ (image numbers c output : List ℕ) (z : commanded image numbers c outp
 
     -- ---- under entry e
 
-    module _ (e : ℕ) (names : Names image c e) where
+    module _ (e : ℕ) (names : Names image desk c e) where
       spi-is : spiAt image e ≡ spiNamed (valueOf c)
       spi-is = names .spi ∙ sym (shifted c 0 2)
 
@@ -157,8 +158,10 @@ module _ (image numbers c output : List ℕ) (z : commanded image numbers c outp
         entry-is : is-done .entry ≡ e
         unfolding entryNamed
         entry-is =
-            let named : withSpi image (spiNamed (valueOf c)) ≡ found.At (is-done .entry) = rw (is, n) at (is-done .named) in
-            let here = spi-at image (valid image passed) (spiNamed (valueOf c)) e (names .entry) spi-is in
+            let named : withSpi image desk (spiNamed (valueOf c)) ≡ found.At (is-done .entry) = rw (is, n) at (is-done .named) in
+            let here = spi-at image (valid image passed) desk (spiNamed (valueOf c)) e (names .entry)
+            (named-tested image desk (spiNamed (valueOf c)) e spi-is (names .seen))
+            in
             let same : found.At (is-done .entry) ≡ found.At e = sym named ∙ here in
             cc
 
@@ -191,7 +194,7 @@ module _ (image numbers c output : List ℕ) (z : commanded image numbers c outp
             → storesOf (procedureIs r) image numbers e (valueOf c) ≡ stores
             → set numbers e (numberFor (procedureIs r) numbers e (valueOf c)) ≡ last
             → procedureIs r .reply image e (lastAt numbers e) (valueOf c) ≡ reply
-            → Leaves image numbers c output stores last reply
+            → Leaves image numbers desk c output stores last reply
         by stores last reply s l p =
             leaves stores last reply (ap (λ (x : Reply). x .stores) settled ∙ s)
             (ap (λ (x : Reply). set numbers (x .entry) (x .number)) settled ∙ l) (ap (λ (x : Reply). x .result) settled ∙ p)
@@ -204,7 +207,7 @@ module _ (image numbers c output : List ℕ) (z : commanded image numbers c outp
           → storesOf (procedureIs r) image numbers e (valueOf c) ≡ writes (bodyAt image e + 3) state ∷ []
           → numberFor (procedureIs r) numbers e (valueOf c) ≡ lastAt numbers e
           → procedureIs r .reply image e (lastAt numbers e) (valueOf c) ≡ []
-          → octet c 0 ≡ procedureIs r .tag → Leaves image numbers c output (writes (place image e 3) state ∷ []) numbers []
+          → octet c 0 ≡ procedureIs r .tag → Leaves image numbers desk c output (writes (place image e 3) state ∷ []) numbers []
       moved r w n state s l p t =
           by r (procedure-is r w t) n _ _ _ (s ∙ ap (λ (a : ℕ). writes a state ∷ []) (stands image e 3))
           (ap (set numbers e) l ∙ set-getD numbers e 0) p
@@ -250,10 +253,10 @@ module _ (image numbers c output : List ℕ) (z : commanded image numbers c outp
               mark = code-of-mark (afterStores image e n j) (r .octets) e ∙ ap gray reached;
             }
 
-        raised-so : Leaves image numbers c output (storesFor image e n) (set numbers e n) []
+        raised-so : Leaves image numbers desk c output (storesFor image e n) (set numbers e n) []
         raised-so = by procedure.SetNumber so refl _ _ _ refl refl refl
 
-        sets : SetsNumber image numbers c output e n
+        sets : SetsNumber image numbers desk c output e n
         unfolding afterStores
         sets =
             let m = n / 64 - lastAt numbers e / 64 in
@@ -270,7 +273,7 @@ module _ (image numbers c output : List ℕ) (z : commanded image numbers c outp
               outputs = raised-so .outputs;
             }
 
-      at-entry : LeavesAt image numbers c output e
+      at-entry : LeavesAt image numbers desk c output e
       unfolding withTag bytes
       at-entry =
           record {
@@ -292,24 +295,24 @@ module _ (image numbers c output : List ℕ) (z : commanded image numbers c outp
 
 -- ---- a question that names no association
 
-told : (image numbers c output : List ℕ) (z : commanded image numbers c output .answer ≡ 0) (r : code.Procedure)
+told : (image numbers : List ℕ) (desk : ℕ) (c output : List ℕ) (z : commanded image numbers desk c output .answer ≡ 0) (r : code.Procedure)
     → withTag (procedureIs r .tag) procedures ≡ calls.Procedure r → octet c 0 ≡ procedureIs r .tag → (reply : List ℕ)
     → ((e : ℕ) → storesOf (procedureIs r) image numbers e (valueOf c) ≡ [])
     → ((e : ℕ) → numberFor (procedureIs r) numbers e (valueOf c) ≡ lastAt numbers e)
     → ((e : ℕ) → procedureIs r .reply image e (lastAt numbers e) (valueOf c) ≡ reply)
-    → Leaves image numbers c output [] numbers reply
-told image numbers c output z r w t reply stores number replies =
-    let d = is-done image numbers c output z in
-    let so = procedure-is image numbers c output z r w t in
+    → Leaves image numbers desk c output [] numbers reply
+told image numbers desk c output z r w t reply stores number replies =
+    let d = is-done image numbers desk c output z in
+    let so = procedure-is image numbers desk c output z r w t in
     let e = d .entry in
     let settled = d .reply ∙ ap (λ (x : code.Procedure). replyAt 0 (procedureIs x) image numbers e (valueOf c)) so in
-    leaves image numbers c output z [] numbers reply (ap (λ (x : Reply). x .stores) settled ∙ stores e)
+    leaves image numbers desk c output z [] numbers reply (ap (λ (x : Reply). x .stores) settled ∙ stores e)
     (ap (λ (x : Reply). set numbers (x .entry) (x .number)) settled ∙ ap (set numbers e) (number e) ∙ set-getD numbers e 0)
     (ap (λ (x : Reply). x .result) settled ∙ replies e)
 
 -- ---- the state of a key
 
-module _ (image numbers c output : List ℕ) (k : ℕ) (has : HasId image (keyNamed c) k) (z : commanded image numbers c output .answer ≡ 0) where
+module _ (image numbers : List ℕ) (desk : ℕ) (c output : List ℕ) (k : ℕ) (has : HasId image (keyNamed c) k) (z : commanded image numbers desk c output .answer ≡ 0) where
   abbrev id : ℕ
   id = asked.keyNamed (valueOf c)
 
@@ -317,17 +320,17 @@ module _ (image numbers c output : List ℕ) (k : ℕ) (has : HasId image (keyNa
       → ((e : ℕ) → storesOf (procedureIs r) image numbers e (valueOf c) ≡ keyStateIn image id state ∷ [])
       → ((e : ℕ) → numberFor (procedureIs r) numbers e (valueOf c) ≡ lastAt numbers e)
       → ((e l : ℕ) → procedureIs r .reply image e l (valueOf c) ≡ [])
-      → Leaves image numbers c output (writes (keyAt image k + 2) state ∷ []) numbers []
+      → Leaves image numbers desk c output (writes (keyAt image k + 2) state ∷ []) numbers []
   turned r w t state stores number reply =
-      let d = is-done image numbers c output z in
-      let so = procedure-is image numbers c output z r w t in
+      let d = is-done image numbers desk c output z in
+      let so = procedure-is image numbers desk c output z r w t in
       let e = d .entry in
       let settled = d .reply ∙ ap (λ (x : code.Procedure). replyAt 0 (procedureIs x) image numbers e (valueOf c)) so in
-      let index : keyWith image id ≡ k = index-is image (passed image numbers c output z) id k (rw (← shifted c 0 2) at has) in
+      let index : keyWith image id ≡ k = index-is image (passed image numbers desk c output z) id k (rw (← shifted c 0 2) at has) in
       let at : keyStatePlace (partAt image) (keyWith image id) ≡ keyAt image k + 2 =
       ap (keyStatePlace (partAt image)) index ∙ ap (λ (p : ℕ). p + 2) (key-place image k)
       in
-      leaves image numbers c output z _ numbers []
+      leaves image numbers desk c output z _ numbers []
       (ap (λ (x : Reply). x .stores) settled ∙ stores e ∙ ap (λ (p : ℕ). writes p state ∷ []) at)
       (ap (λ (x : Reply). set numbers (x .entry) (x .number)) settled ∙ ap (set numbers e) (number e) ∙ set-getD numbers e 0)
       (ap (λ (x : Reply). x .result) settled ∙ reply e (lastAt numbers e))
@@ -338,16 +341,16 @@ pub command-leaving : CommandLeaving
 unfolding withTag bytes
 command-leaving =
     record {
-      always = λ image numbers c output octets spoken thirtyTwo z. lawfully image numbers c output z octets spoken thirtyTwo;
-      named = λ image numbers c output e octets spoken thirtyTwo names z. at-entry image numbers c output z octets spoken thirtyTwo e names;
-      activation = λ image numbers c output k has t z.
-          turned image numbers c output k has z procedure.Activation refl t 1 (λ e. refl) (λ e. refl) (λ e l. refl);
-      deactivation = λ image numbers c output k has t z.
-          turned image numbers c output k has z procedure.Deactivation refl t 2 (λ e. refl) (λ e. refl) (λ e l. refl);
-      ping = λ image numbers c output t z.
-          told image numbers c output z procedure.Ping refl t _ (λ e. refl) (λ e. refl) (λ e. refl);
-      inventory = λ image numbers c output t z.
-          told image numbers c output z procedure.Inventory refl t _ (λ e. refl) (λ e. refl)
+      always = λ image numbers desk c output octets spoken thirtyTwo z. lawfully image numbers desk c output z octets spoken thirtyTwo;
+      named = λ image numbers desk c output e octets spoken thirtyTwo names z. at-entry image numbers desk c output z octets spoken thirtyTwo e names;
+      activation = λ image numbers desk c output k has t z.
+          turned image numbers desk c output k has z procedure.Activation refl t 1 (λ e. refl) (λ e. refl) (λ e l. refl);
+      deactivation = λ image numbers desk c output k has t z.
+          turned image numbers desk c output k has z procedure.Deactivation refl t 2 (λ e. refl) (λ e. refl) (λ e l. refl);
+      ping = λ image numbers desk c output t z.
+          told image numbers desk c output z procedure.Ping refl t _ (λ e. refl) (λ e. refl) (λ e. refl);
+      inventory = λ image numbers desk c output t z.
+          told image numbers desk c output z procedure.Inventory refl t _ (λ e. refl) (λ e. refl)
           (λ e.
           inventory-is image (asked.firstNamed (valueOf c)) (asked.lastNamed (valueOf c))
           ∙ ap₂ (inventoryReply image) (shifted c 0 2) (shifted c 2 2));

@@ -12,5 +12,6 @@ pub mod NamedKeys
 pub mod Refusals
 pub mod Rows
 pub mod Runs
+pub mod Seats
 pub mod Shifted
 pub mod Unmanaged

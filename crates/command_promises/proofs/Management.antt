@@ -31,11 +31,11 @@ use Rattle.commands.proofs.Managed.{Managed, state-only, state-stored, window-s
 use Rattle.promises.specs.Answers.{Rules, rule, reporting, reportOf, Gives}
 use Rattle.promises.specs.Frames.{FrameRules, RightField, spiOn}
 use Rattle.promises.specs.Images.{versionIn, shapeIn, countIn, spiAt, place, kindAt, stateAt, spacecraftAt, channelAt, mapAt, windowAt, keyIdAt, lastAt, isSet}
-use Rattle.promises.specs.Images.{ImageRules, Agreeing, Serves}
+use Rattle.promises.specs.Images.{ownerAt, ImageRules, Agreeing, Sees, Serves}
 use Rattle.promises.specs.Versions.{Shape, shapeOf}
 use Rattle.promises.proofs.Answers.{answering}
 use Rattle.promises.proofs.Fields.{shapes, stands, kind-at, state-at, spacecraft-at, channel-at, map-at, window-at}
-use Rattle.promises.proofs.Valids.{between-tested, rules-kept, rules-valid, agreement, agreement-tested, key-found}
+use Rattle.promises.proofs.Valids.{between-tested, rules-kept, rules-valid, agreement, agreement-tested, desk-known, key-found}
 use Rattle.command_promises.specs.Answers.{rowIn, FormRules, About}
 use Rattle.command_promises.specs.Leaves.{Leaves, writes, renames, LeavesAt, SetsNumber}
 use Rattle.command_promises.specs.Management.{Speaks, Starts, Rekeys, Restored, Stopped, Management}
@@ -43,33 +43,37 @@ use Rattle.command_promises.specs.Rows.{Names, NeedsKey, NeedsActive, Is
 use Rattle.command_promises.proofs.Answers.{command-answers}
 use Rattle.command_promises.proofs.Leaves.{command-leaving, octets-after}
 use Rattle.command_promises.proofs.NamedKeys.{in-state}
+use Rattle.command_promises.proofs.Seats.{not-key}
 
 -- ---- where every rule is kept, the answer is 0
 
-answers-zero : (image numbers c output : List ℕ) (e : ℕ) → Octets image → ImageRules image → Agreeing image numbers → FormRules c
-    → rowIn c .names ≡ true → Names image c e → rowIn c .State (stateAt image e) → rowIn c .Value image numbers c e
+answers-zero : (image numbers : List ℕ) (desk : ℕ) (c output : List ℕ) (e : ℕ) → Octets image → ImageRules image → Agreeing image numbers → FormRules c
+    → rowIn c .names ≡ true → Names image desk c e → rowIn c .State (stateAt image e) → rowIn c .Value image numbers c e
     → rowIn c .Known image c e → rowIn c .Ready image c e → rowIn c .reply image c ≤ length output
-    → commanded image numbers c output .answer ≡ 0
+    → commanded image numbers desk c output .answer ≡ 0
 unfolding Gives
-answers-zero image numbers c output e octets rules agree form named names state value known ready room =
+answers-zero image numbers desk c output e octets rules agree form named names state value known ready room =
     let v = valid image (rules-valid image octets rules) in
-    let under : (P : ℕ → Type 0) → P e → (d : ℕ) → About image c d → P d =
+    let under : (P : ℕ → Type 0) → P e → (d : ℕ) → About image desk c d → P d =
     λ P p d about. subst P (spi-once image v e d (names .entry) (about named .entry) (names .spi ∙ sym (about named .spi))) p in
     sym
-    (command-answers .commanding image numbers c output octets .alone (reporting 0 0 0)
+    (command-answers .commanding image numbers desk c output octets .alone (reporting 0 0 0)
     (inr (
       rules,
       inr (
         agree,
         inr (
-          form,
+          record { known = desk-known image desk e (rules .body e (names .entry)) (names .seen); office = λ key. absurd (not-key c named key) },
           inr (
-            (e, λ so. names),
+            form,
             inr (
-              under (λ (d : ℕ). rowIn c .State (stateAt image d)) state,
+              (e, λ so. names),
               inr (
-                under (rowIn c .Value image numbers c) value,
-                inr (under (rowIn c .Known image c) known, inr (under (rowIn c .Ready image c) ready, inr (room, refl))),
+                under (λ (d : ℕ). rowIn c .State (stateAt image d)) state,
+                inr (
+                  under (rowIn c .Value image numbers c) value,
+                  inr (under (rowIn c .Known image c) known, inr (under (rowIn c .Ready image c) ready, inr (room, refl))),
+                ),
               ),
             ),
           ),
@@ -220,43 +224,53 @@ module _ (image numbers : List ℕ) (e : ℕ) (octets : Octets image) (thirtyTwo
 
   -- ---- a command that moves the state
 
-  names-with : (state t : ℕ) (c : List ℕ) → Speaks image e t c → Names (with state) c e
-  names-with state t c s = record { entry = listed-with state; spi = spi-with state ∙ sym (s .spi) }
+  owner-with : (state : ℕ) → ownerAt (with state) e ≡ ownerAt image e
+  owner-with state =
+      ap₂ (λ (t : Bool) (p : ℕ). cond t p 1) (ap (λ (x : Shape). x .owners) (shape-with state))
+      (ap (octet (with state)) (place-with state 22) ∙ octet-with state 22 (λ q. omega arith))
 
-  moves : (state next : ℕ) → state ≤ 2 → (t : ℕ) (c output : List ℕ) → Speaks image e t c → rowOf t .names ≡ true
+  seen-with : (state desk : ℕ) → Sees image desk e → Sees (with state) desk e
+  seen-with state desk (inl office) = inl office
+  seen-with state desk (inr own) = inr (owner-with state ∙ own)
+
+  names-with : (state desk t : ℕ) (c : List ℕ) → Sees image desk e → Speaks image e t c → Names (with state) desk c e
+  names-with state desk t c seen s =
+      record { entry = listed-with state; spi = spi-with state ∙ sym (s .spi); seen = seen-with state desk seen }
+
+  moves : (state next : ℕ) → state ≤ 2 → (desk t : ℕ) (c output : List ℕ) → Sees image desk e → Speaks image e t c → rowOf t .names ≡ true
       → rowOf t .State state → rowOf t .Value (with state) numbers c e → rowOf t .Known (with state) c e → rowOf t .Ready (with state) c e
       → rowOf t .reply (with state) c ≤ 0
       → (stores : List Store) → stored (with state) stores ≡ with next
-      → (LeavesAt (with state) numbers c output e → Leaves (with state) numbers c output stores numbers [])
-      → Restored (with next) numbers (commanded (with state) numbers c output)
-  moves state next small t c output s named asked allowed known ready none stores made which =
-      let names = names-with state t c s in
+      → (LeavesAt (with state) numbers desk c output e → Leaves (with state) numbers desk c output stores numbers [])
+      → Restored (with next) numbers (commanded (with state) numbers desk c output)
+  moves state next small desk t c output seen s named asked allowed known ready none stores made which =
+      let names = names-with state desk t c seen s in
       let octets-with = managed state small .octets in
-      let z = answers-zero (with state) numbers c output e octets-with (rules-with state small) (agree-with state small) (s .form)
+      let z = answers-zero (with state) numbers desk c output e octets-with (rules-with state small) (agree-with state small) (s .form)
       (by-name c t (s .tag) named) names
       (by-state c t _ (s .tag) (rw (state-with state) asked)) (by-value (with state) numbers c e t (s .tag) allowed)
       (by-known (with state) c e t (s .tag) known) (by-ready (with state) c e t (s .tag) ready)
       (by-room (with state) c t (length output) (s .tag) (omega arith)) in
-      let l = which (command-leaving .named (with state) numbers c output e octets-with (s .octets) thirtyTwo names z) in
+      let l = which (command-leaving .named (with state) numbers desk c output e octets-with (s .octets) thirtyTwo names z) in
       record { answer = z; images = l .whole ∙ made; lasts = l .lasts }
 
   one-store : (state next : ℕ) → stored (with state) (writes (place (with state) e 3) next ∷ []) ≡ with next
   unfolding stored
   one-store state next = with-with state next
 
-  starts : (c output : List ℕ) → Starts image e c → Restored image numbers (commanded (with 1) numbers c output)
+  starts : (desk : ℕ) (c output : List ℕ) → Sees image desk e → Starts image e c → Restored image numbers (commanded (with 1) numbers desk c output)
   unfolding rowOf
-  starts c output s =
+  starts desk c output seen s =
       let w = rules .body e listed .window running in
       rw with-two at
-      (moves 1 2 (omega arith) 0x1B c output (s .speaks) refl refl
+      (moves 1 2 (omega arith) desk 0x1B c output seen (s .speaks) refl refl
       (record { channels = λ i h. channel-with 1 _ (s .channels i h); window = rw (window-with 1) w })
       (rw (id-with 1) (known-with 1)) (rw (id-with 1) (active-with 1))
       (omega arith) _ (one-store 1 2) (λ l. l .start (s .speaks .tag)))
 
-  expires : (c output : List ℕ) → Speaks image e 0x19 c → Restored (with 0) numbers (commanded (with 1) numbers c output)
+  expires : (desk : ℕ) (c output : List ℕ) → Sees image desk e → Speaks image e 0x19 c → Restored (with 0) numbers (commanded (with 1) numbers desk c output)
   unfolding rowOf
-  expires c output s = moves 1 0 (omega arith) 0x19 c output s refl refl tt tt tt (omega arith) _ (one-store 1 0) (λ l. l .expire (s .tag))
+  expires desk c output seen s = moves 1 0 (omega arith) desk 0x19 c output seen s refl refl tt tt tt (omega arith) _ (one-store 1 0) (λ l. l .expire (s .tag))
 
   -- a rekey stores the ID that is there
   same-octets : (c : List ℕ) → Octets c → numberAt 5 2 c ≡ keyIdAt image e
@@ -295,10 +309,10 @@ module _ (image numbers : List ℕ) (e : ℕ) (octets : Octets image) (thirtyTwo
           ∙ with-with 0 1
       by-part false none = with-with 0 1
 
-  rekeys : (c output : List ℕ) → Rekeys image e c → Restored (with 1) numbers (commanded (with 0) numbers c output)
+  rekeys : (desk : ℕ) (c output : List ℕ) → Sees image desk e → Rekeys image e c → Restored (with 1) numbers (commanded (with 0) numbers desk c output)
   unfolding rowOf
-  rekeys c output s =
-      moves 0 1 (omega arith) 0x16 c output (s .speaks) refl refl (named-none, s .number)
+  rekeys desk c output seen s =
+      moves 0 1 (omega arith) desk 0x16 c output seen (s .speaks) refl refl (named-none, s .number)
       (λ has. rw (named-own has) (known-with 0 has)) (λ has. rw (named-own has) (active-with 0 has))
       (omega arith) _ (rekey-stores c s) (λ l. l .rekey (s .speaks .tag))
     where
@@ -320,22 +334,23 @@ module _ (image numbers : List ℕ) (e : ℕ) (octets : Octets image) (thirtyTwo
       let state : stateAt (with 1) e ≡ 2 = ap (stateAt (with 1)) own ∙ s .1 .state in
       omega (arith, state-with 1)
 
-  no-sending : (said : Said) (frame output : List ℕ) → FrameRules said frame 1 → RightField said frame
+  no-sending : (said : Said) (frame output : List ℕ) → said .desk ≤ 2 → FrameRules said frame 1 → RightField said frame
       → secured (with 1) numbers said (spiAt image e) frame output .answer ≡ 4
   unfolding Gives
-  no-sending said frame output f field =
+  no-sending said frame output known f field =
       sym
       (answering .sending (with 1) numbers said (spiAt image e) frame output (managed 1 (omega arith) .octets) .alone (reporting 4 0 0)
-      (inr (rules-with 1 (omega arith), inr (agree-with 1 (omega arith), inr (f, inr (field, inl (unserved 1 said frame, refl)))))))
+      (inr
+      (rules-with 1 (omega arith), inr (agree-with 1 (omega arith), inr (known, inr (f, inr (field, inl (unserved 1 said frame, refl))))))))
 
-  no-checking : (said : Said) (frame output : List ℕ) → FrameRules said frame 2 → RightField said frame → spiOn said frame ≡ spiAt image e
+  no-checking : (said : Said) (frame output : List ℕ) → said .desk ≤ 2 → FrameRules said frame 2 → RightField said frame → spiOn said frame ≡ spiAt image e
       → checked (with 1) numbers said frame output .answer ≡ 4
   unfolding Gives
-  no-checking said frame output f field spi =
+  no-checking said frame output known f field spi =
       sym
       (answering .checking (with 1) numbers said frame output (managed 1 (omega arith) .octets) .alone (reporting 4 0 0)
       (inr
-      (rules-with 1 (omega arith), inr (agree-with 1 (omega arith), inr (f, inr (field, inl (rw spi (unserved 2 said frame), refl)))))))
+      (rules-with 1 (omega arith), inr (agree-with 1 (omega arith), inr (known, inr (f, inr (field, inl (rw spi (unserved 2 said frame), refl))))))))
 
   stopped-with : Stopped image numbers e (with 1) numbers
   stopped-with =
@@ -343,10 +358,10 @@ module _ (image numbers : List ℕ) (e : ℕ) (octets : Octets image) (thirtyTwo
         sending = no-sending;
         checking = no-checking;
         started = starts;
-        rekeyed = λ expire out rekey out2 start out3 x r s.
-            let a = expires expire out x in
-            let b = rekeys rekey out2 r in
-            rw (a .images, a .lasts, b .images, b .lasts) (starts start out3 s);
+        rekeyed = λ desk expire out rekey out2 start out3 seen x r s.
+            let a = expires desk expire out seen x in
+            let b = rekeys desk rekey out2 seen r in
+            rw (a .images, a .lasts, b .images, b .lasts) (starts desk start out3 seen s);
       }
 
 -- ---- what a command that is done says of what it was given
@@ -358,15 +373,17 @@ unfolding Gives
 kept-first refusal kept behind r z some (inl x) = absurd (omega (arith, ap (λ (v : Reported). v .number) (x .1)))
 kept-first refusal kept behind r z some (inr x) = x
 
-module _ (image numbers c output : List ℕ) (octets : Octets image) (z : commanded image numbers c output .answer ≡ 0) where
+module _ (image numbers : List ℕ) (desk : ℕ) (c output : List ℕ) (octets : Octets image)
+    (z : commanded image numbers desk c output .answer ≡ 0) where
   abbrev report : Reported
-  report = reportOf (commanded image numbers c output)
+  report = reportOf (commanded image numbers desk c output)
 
-  given : ImageRules image × (Agreeing image numbers × ((e : ℕ) → About image c e → rowIn c .State (stateAt image e)))
+  given : ImageRules image × (Agreeing image numbers × ((e : ℕ) → About image desk c e → rowIn c .State (stateAt image e)))
   given =
-      let g1 = kept-first answer.BadImage _ _ report z (omega arith) (command-answers .commanding image numbers c output octets .given) in
+      let g1 = kept-first answer.BadImage _ _ report z (omega arith) (command-answers .commanding image numbers desk c output octets .given) in
       let g2 = kept-first answer.BadMarks _ _ report z (omega arith) (g1 .1) in
-      let g13 = kept-first answer.BadCommand _ _ report z (omega arith) (g2 .1) in
+      let g19 = kept-first answer.WrongDesk _ _ report z (omega arith) (g2 .1) in
+      let g13 = kept-first answer.BadCommand _ _ report z (omega arith) (g19 .1) in
       let g14 = kept-first answer.UnknownSpi _ _ report z (omega arith) (g13 .1) in
       let g15 = kept-first answer.WrongState _ _ report z (omega arith) (g14 .1) in
       (g1 .0, (g2 .0, g15 .0))
@@ -378,20 +395,20 @@ was-running c s t h = rw t at h
 
 -- ---- a number that is set is read back
 
-module _ (image numbers c read output room : List ℕ) (e : ℕ) (octets : Octets image) (thirtyTwo : length numbers ≡ 32)
-    (names : Names image c e) (spoken : Octets c) (tag : octet c 0 ≡ 0x1A) (s : Speaks image e 0x10 read) (roomy : 17 ≤ length room)
-    (z : commanded image numbers c output .answer ≡ 0) where
+module _ (image numbers : List ℕ) (desk reader : ℕ) (c read output room : List ℕ) (e : ℕ) (octets : Octets image) (thirtyTwo : length numbers ≡ 32)
+    (names : Names image desk c e) (sees : Sees image reader e) (spoken : Octets c) (tag : octet c 0 ≡ 0x1A) (s : Speaks image e 0x10 read) (roomy : 17 ≤ length room)
+    (z : commanded image numbers desk c output .answer ≡ 0) where
   abbrev x : Left
-  x = commanded image numbers c output
+  x = commanded image numbers desk c output
 
   abbrev n : ℕ
   n = numberAt 5 12 c
 
-  sets : SetsNumber image numbers c output e n
-  sets = command-leaving .named image numbers c output e octets spoken thirtyTwo names z .setNumber tag
+  sets : SetsNumber image numbers desk c output e n
+  sets = command-leaving .named image numbers desk c output e octets spoken thirtyTwo names z .setNumber tag
 
   rules : ImageRules image
-  rules = given image numbers c output octets z .0
+  rules = given image numbers desk c output octets z .0
 
   count-kept : countIn (x .image) ≡ countIn image
   count-kept = sets .whole .elsewhere 1 (inl (omega (arith, shapes (versionIn image) .begins)))
@@ -401,17 +418,40 @@ module _ (image numbers c read output room : List ℕ) (e : ℕ) (octets : Octet
       numberAt-same (2 + 4 * e) 2 (x .image) image
       (λ i h. sets .whole .elsewhere (2 + 4 * e + i) (inl (omega (arith, names .entry, shapes (versionIn image) .begins))))
 
-  read-names : Names (x .image) read e
-  read-names = record { entry = omega (arith, count-kept, names .entry); spi = spi-kept ∙ sym (s .spi) }
+  version-kept : versionIn (x .image) ≡ versionIn image
+  version-kept = sets .whole .elsewhere 0 (inl (omega (arith, shapes (versionIn image) .begins)))
+
+  -- the owner stands behind the mark
+  owner-kept : ownerAt (x .image) e ≡ ownerAt image e
+  owner-kept = by-owners (shapeIn image .owners) refl
+    where
+      shape-kept : shapeIn (x .image) .owners ≡ shapeIn image .owners
+      shape-kept = ap (λ (v : ℕ). shapeOf v .owners) version-kept
+
+      at : place (x .image) e 22 ≡ place image e 22
+      at = ap₂ (λ (v k : ℕ). shapeOf v .front + 4 * k + shapeOf v .body * e + 22) version-kept count-kept
+
+      by-owners : (t : Bool) → shapeIn image .owners ≡ t → ownerAt (x .image) e ≡ cond t (octet image (place image e 22)) 1
+      by-owners true has =
+          let h = shapes (versionIn image) .owner has in
+          rw (shape-kept ∙ has) (ap (octet (x .image)) at ∙ sets .whole .elsewhere (place image e 22) (inr (omega (arith, h .0))))
+      by-owners false none = rw (shape-kept ∙ none)
+
+  read-seen : Sees image reader e → Sees (x .image) reader e
+  read-seen (inl office) = inl office
+  read-seen (inr own) = inr (owner-kept ∙ own)
+
+  read-names : Names (x .image) reader read e
+  read-names = record { entry = omega (arith, count-kept, names .entry); spi = spi-kept ∙ sym (s .spi); seen = read-seen sees }
 
   after-octets : Octets (x .image)
-  after-octets = octets-after image numbers c output z octets spoken thirtyTwo
+  after-octets = octets-after image numbers desk c output z octets spoken thirtyTwo
 
-  reads : commanded (x .image) (x .numbers) read room .answer ≡ 0
+  reads : commanded (x .image) (x .numbers) reader read room .answer ≡ 0
   unfolding rowOf
   reads =
-      let l = command-leaving .always image numbers c output octets spoken thirtyTwo z in
-      answers-zero (x .image) (x .numbers) read room e after-octets (l .valid rules) (l .agree) (s .form) (by-name read 0x10 (s .tag) refl) read-names
+      let l = command-leaving .always image numbers desk c output octets spoken thirtyTwo z in
+      answers-zero (x .image) (x .numbers) reader read room e after-octets (l .valid rules) (l .agree) (s .form) (by-name read 0x10 (s .tag) refl) read-names
       (by-state read 0x10 _ (s .tag) tt) (by-value (x .image) (x .numbers) read e 0x10 (s .tag) tt)
       (by-known (x .image) read e 0x10 (s .tag) tt) (by-ready (x .image) read e 0x10 (s .tag) tt)
       (by-room (x .image) read 0x10 (length room) (s .tag) roomy)
@@ -421,10 +461,10 @@ module _ (image numbers c read output room : List ℕ) (e : ℕ) (octets : Octet
       ap (λ (l : List ℕ). lastAt l e) (sets .lasts)
       ∙ getD-set-same numbers e n 0 (omega (arith, thirtyTwo, rules .count, names .entry))
 
-  read-back : handed (commanded (x .image) (x .numbers) read room) ≡ 0x90 ∷ 0 ∷ 14 ∷ (bytes 2 (spiAt image e) ++ bytes 12 n)
+  read-back : handed (commanded (x .image) (x .numbers) reader read room) ≡ 0x90 ∷ 0 ∷ 14 ∷ (bytes 2 (spiAt image e) ++ bytes 12 n)
   read-back =
       let two = ap length (sets .lasts) ∙ length-set numbers e n ∙ thirtyTwo in
-      let l = command-leaving .named (x .image) (x .numbers) read room e after-octets (s .octets) two read-names reads .readNumber (s .tag) in
+      let l = command-leaving .named (x .image) (x .numbers) reader read room e after-octets (s .octets) two read-names reads .readNumber (s .tag) in
       let reply : List ℕ = 0x90 ∷ 0 ∷ 14 ∷ (bytes 2 (spiAt (x .image) e) ++ bytes 12 (lastAt (x .numbers) e)) in
       let same : reply ≡ 0x90 ∷ 0 ∷ 14 ∷ (bytes 2 (spiAt image e) ++ bytes 12 n) = rw (spi-kept, last-is) refl in
       rw (l .outputs) (take-at reply (drop (length reply) room) _ (sym (l .size)) ∙ same)
@@ -435,15 +475,15 @@ pub management : Management
 unfolding stored
 management =
     record {
-      stopped = λ image numbers stop output e octets thirtyTwo names spoken tag z.
-          let l = command-leaving .named image numbers stop output e octets spoken thirtyTwo names z .stop tag in
-          let g = given image numbers stop output octets z in
+      stopped = λ image numbers desk stop output e octets thirtyTwo names spoken tag z.
+          let l = command-leaving .named image numbers desk stop output e octets spoken thirtyTwo names z .stop tag in
+          let g = given image numbers desk stop output octets z in
           let running = was-running stop (stateAt image e) tag (g .1 .1 e (λ so. names)) in
           let whole = l .whole ∙ ap (λ (at : ℕ). set image at 1) (sym (stands image e 3)) in
           rw (whole, l .lasts)
           (stopped-with image numbers e octets thirtyTwo (g .0) (g .1 .0) (names .entry) running);
-      readBack = λ image numbers set read output room e octets thirtyTwo names spoken tag s roomy z. (
-        reads image numbers set read output room e octets thirtyTwo names spoken tag s roomy z,
-        read-back image numbers set read output room e octets thirtyTwo names spoken tag s roomy z,
+      readBack = λ image numbers desk reader set read output room e octets thirtyTwo names sees spoken tag s roomy z. (
+        reads image numbers desk reader set read output room e octets thirtyTwo names sees spoken tag s roomy z,
+        read-back image numbers desk reader set read output room e octets thirtyTwo names sees spoken tag s roomy z,
       );
     }

@@ -9,6 +9,6 @@ pub command-refusals : CommandRefusals
 unfolding commanded commandedCut
 command-refusals =
     record {
-      whole = λ image numbers command output. by-answer (commandReply image numbers command (length output)) image numbers output;
-      cut = λ image numbers command output. cut-by-answer (commandReply image numbers command (length output)) image numbers output;
+      whole = λ image numbers desk command output. by-answer (commandReply image numbers desk command (length output)) image numbers output;
+      cut = λ image numbers desk command output. cut-by-answer (commandReply image numbers desk command (length output)) image numbers output;
     }

@@ -35,14 +35,14 @@ module _ (e : ℕ) (x y : State) (k : Keeps x y) where
 pub first-spoken : (v : Step) (vs : List Step) → OfOctets (v ∷ vs) → Spoken v
 unfolding OfOctets Spoken
 first-spoken (call v) vs o = tt
-first-spoken (command c output) vs o = o .0
-first-spoken (commandCut c output j any) vs o = o .0
+first-spoken (command desk c output) vs o = o .0
+first-spoken (commandCut desk c output j any) vs o = o .0
 
 pub rest-spoken : (v : Step) (vs : List Step) → OfOctets (v ∷ vs) → OfOctets vs
 unfolding OfOctets
 rest-spoken (call v) vs o = o
-rest-spoken (command c output) vs o = o .1
-rest-spoken (commandCut c output j any) vs o = o .1
+rest-spoken (command desk c output) vs o = o .1
+rest-spoken (commandCut desk c output j any) vs o = o .1
 
 -- ---- sending
 

@@ -5,6 +5,7 @@
 -- Assumes nothing.
 use Prim.Native.Nat.{ℕ, _+_, _≤_}
 use mathlib.Core.Bool.{true}
+use mathlib.Core.Logic.{_⊎_}
 use mathlib.Core.Path.{_≡_}
 use mathlib.Core.List.{List}
 use lib.ListN.{length}
@@ -24,25 +25,34 @@ pub record FormRules (command : List ℕ) : Type 0 where
   pub field : length command ≡ 3 + numberAt 1 2 command
   pub size : rowIn command .Size (length command)
 
--- entry e is the one that the command names; a command that names none says so of any
-abbrev pub About : List ℕ → List ℕ → ℕ → Type 0
-About image command e = rowIn command .names ≡ true → Names image command e
+-- 19: one of the three desks; and a key command, which its first octet tells whatever its length, from the key office's
+abbrev pub KeyCommand : List ℕ → Type 0
+KeyCommand command = (octet command 0 ≡ 0x02) ⊎ ((octet command 0 ≡ 0x03) ⊎ (octet command 0 ≡ 0x07))
 
--- in the order 1, 2, 13, 14, 15, 16, 17, 18, 6; `under` the entry that the command names, of which a valid image has at most one
-abbrev pub commandRules : List ℕ → List ℕ → List ℕ → List ℕ → Rules
-commandRules image numbers command output =
-    let under : (ℕ → Type 0) → Type 0 = λ kept. (e : ℕ) → About image command e → kept e in
+pub record DeskRules (desk : ℕ) (command : List ℕ) : Type 0 where
+  pub known : desk ≤ 2
+  pub office : KeyCommand command → desk ≡ 0
+
+-- entry e is the one that the command names; a command that names none says so of any
+abbrev pub About : List ℕ → ℕ → List ℕ → ℕ → Type 0
+About image desk command e = rowIn command .names ≡ true → Names image desk command e
+
+-- in the order 1, 2, 19, 13, 14, 15, 16, 17, 18, 6; `under` the entry that the command names, of which a valid image has at most one
+abbrev pub commandRules : List ℕ → List ℕ → ℕ → List ℕ → List ℕ → Rules
+commandRules image numbers desk command output =
+    let under : (ℕ → Type 0) → Type 0 = λ kept. (e : ℕ) → About image desk command e → kept e in
     rule answer.BadImage (ImageRules image)
     (rule answer.BadMarks (Agreeing image numbers)
+    (rule answer.WrongDesk (DeskRules desk command)
     (rule answer.BadCommand (FormRules command)
-    (rule answer.UnknownSpi ((e : ℕ) × About image command e)
+    (rule answer.UnknownSpi ((e : ℕ) × About image desk command e)
     (rule answer.WrongState (under (λ e. rowIn command .State (stateAt image e)))
     (rule answer.BadValue (under (rowIn command .Value image numbers command))
     (rule answer.UnknownKey (under (rowIn command .Known image command))
     (rule answer.WrongKeyState (under (rowIn command .Ready image command))
     (rule answer.NoRoom (rowIn command .reply image command ≤ length output)
-    noMore))))))))
+    noMore)))))))))
 
 pub record CommandAnswers : Type 0 where
-  pub commanding : (image numbers command output : List ℕ) → Octets image
-      → Exactly (commandRules image numbers command output) (reportOf (commanded image numbers command output))
+  pub commanding : (image numbers : List ℕ) (desk : ℕ) (command output : List ℕ) → Octets image
+      → Exactly (commandRules image numbers desk command output) (reportOf (commanded image numbers desk command output))

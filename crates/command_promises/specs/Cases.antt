@@ -67,7 +67,7 @@ abbrev pub naming : ℕ → List ℕ
 naming n = spoken 0x1B (nine ++ bytes 4 n)
 
 abbrev pub given : List ℕ → List ℕ → Left
-given image command = commanded image (oneNumber 63) command space
+given image command = commanded image (oneNumber 63) 0 command space
 
 -- a command for a key; and a rekey of SPI 9 to one, with that number
 abbrev pub forKey : ℕ → ℕ → List ℕ
@@ -93,21 +93,21 @@ commandCases =
     ∷ eqb (given imageB stop .stores) 1
     ∷ eqb (given imageB stop .length) 0
     ∷ same (given imageB stop .numbers) (oneNumber 63)
-    ∷ same (commandedCut imageB (oneNumber 63) stop space 0) imageB
-    ∷ same (commandedCut imageB (oneNumber 63) stop space 1) (inState 1)
+    ∷ same (commandedCut imageB (oneNumber 63) 0 stop space 0) imageB
+    ∷ same (commandedCut imageB (oneNumber 63) 0 stop space 1) (inState 1)
     -- the number: 163 stores 01, then 03; a cut after the first loads as 127; 1,087 takes 16 stores
     ∷ same (given imageB (setNumber 163) .image) (sender 100 0x03)
     ∷ same (given imageB (setNumber 163) .numbers) (oneNumber 163)
     ∷ eqb (given imageB (setNumber 163) .stores) 2
-    ∷ same (loaded (commandedCut imageB (oneNumber 63) (setNumber 163) space 1) [] .numbers) (oneNumber 127)
+    ∷ same (loaded (commandedCut imageB (oneNumber 63) 0 (setNumber 163) space 1) [] .numbers) (oneNumber 127)
     ∷ eqb (given imageB (setNumber 1087) .stores) 16
     ∷ eqb (given imageB (setNumber 63) .answer) 16
     ∷ eqb (given imageB (setNumber 1088) .answer) 16
-    ∷ eqb (commanded (sender 100 0x02000000) (oneNumber 4294967295) (setNumber 4294967296) space .answer) 16
+    ∷ eqb (commanded (sender 100 0x02000000) (oneNumber 4294967295) 0 (setNumber 4294967296) space .answer) 16
     -- the window: 100 to 1,024; between the stores it is 1,124, which loads, and start refuses it
     ∷ same (given (inState 1) (setWindow 1024) .image) (set (sender 1024 0) 9 1)
-    ∷ eqb (loaded (commandedCut (inState 1) (oneNumber 63) (setWindow 1024) space 1) [] .answer) 0
-    ∷ eqb (given (commandedCut (inState 1) (oneNumber 63) (setWindow 1024) space 1) start .answer) 16
+    ∷ eqb (loaded (commandedCut (inState 1) (oneNumber 63) 0 (setWindow 1024) space 1) [] .answer) 0
+    ∷ eqb (given (commandedCut (inState 1) (oneNumber 63) 0 (setWindow 1024) space 1) start .answer) 16
     ∷ eqb (given imageB (setWindow 1024) .answer) 15
     ∷ eqb (given (inState 1) (setWindow 0) .answer) 16
     ∷ eqb (given (inState 1) (setWindow 1025) .answer) 16
@@ -128,7 +128,7 @@ commandCases =
     ∷ same (given (oneKeyed 2 1 1 0) (forKey 0x02 5) .image) (oneKeyed 2 1 1 1)
     ∷ same (given (oneKeyed 2 1 1 1) (forKey 0x03 5) .image) (oneKeyed 2 1 1 2)
     ∷ eqb (given (oneKeyed 2 1 1 1) (forKey 0x03 5) .stores) 1
-    ∷ same (commandedCut (oneKeyed 2 1 1 1) (oneNumber 63) (forKey 0x03 5) space 0) (oneKeyed 2 1 1 1)
+    ∷ same (commandedCut (oneKeyed 2 1 1 1) (oneNumber 63) 0 (forKey 0x03 5) space 0) (oneKeyed 2 1 1 1)
     ∷ eqb (given (oneKeyed 2 1 2 1) (forKey 0x03 6) .answer) 0
     ∷ eqb (given (oneKeyed 2 1 2 1) (forKey 0x03 5) .answer) 18
     ∷ eqb (given (oneKeyed 2 1 1 0) (forKey 0x03 5) .answer) 18
@@ -145,7 +145,7 @@ commandCases =
     ∷ same (handed (given (oneKeyed 2 1 1 0) (keysFrom 6 6))) (0x87 ∷ 0x00 ∷ 0x05 ∷ 0x00 ∷ 0x01 ∷ 0x00 ∷ 0x06 ∷ 0x01 ∷ [])
     ∷ same (handed (given (oneKeyed 2 1 1 0) (keysFrom 6 5))) (0x87 ∷ 0x00 ∷ 0x02 ∷ 0x00 ∷ 0x00 ∷ [])
     ∷ same (handed (given imageB (keysFrom 0 0xFFFF))) (0x87 ∷ 0x00 ∷ 0x02 ∷ 0x00 ∷ 0x00 ∷ [])
-    ∷ eqb (commanded (oneKeyed 2 1 1 0) (oneNumber 63) (keysFrom 0 0xFFFF) (replicate 10 0) .answer) 6
+    ∷ eqb (commanded (oneKeyed 2 1 1 0) (oneNumber 63) 0 (keysFrom 0 0xFFFF) (replicate 10 0) .answer) 6
     ∷ eqb (given imageB (spoken 0x07 (bytes 2 0)) .answer) 13
     -- start needs the key that its body names
     ∷ same (given (oneKeyed 2 1 1 1) start .image) (oneKeyed 2 1 2 1)
@@ -156,16 +156,25 @@ commandCases =
     -- rekey stores the ID, and the state last; a cut leaves one new octet, and the image loads
     ∷ same (given (namingKey 0 0x1234) (rekeyTo 6 0) .image) (namingKey 1 6)
     ∷ eqb (given (namingKey 0 0x1234) (rekeyTo 6 0) .stores) 3
-    ∷ same (commandedCut (namingKey 0 0x1234) (oneNumber 63) (rekeyTo 6 0) space 1) (namingKey 0 0x0034)
-    ∷ same (commandedCut (namingKey 0 0x1234) (oneNumber 63) (rekeyTo 6 0) space 2) (namingKey 0 6)
-    ∷ eqb (loaded (commandedCut (namingKey 0 0x1234) (oneNumber 63) (rekeyTo 6 0) space 1) [] .answer) 0
+    ∷ same (commandedCut (namingKey 0 0x1234) (oneNumber 63) 0 (rekeyTo 6 0) space 1) (namingKey 0 0x0034)
+    ∷ same (commandedCut (namingKey 0 0x1234) (oneNumber 63) 0 (rekeyTo 6 0) space 2) (namingKey 0 6)
+    ∷ eqb (loaded (commandedCut (namingKey 0 0x1234) (oneNumber 63) 0 (rekeyTo 6 0) space 1) [] .answer) 0
     ∷ eqb (given (namingKey 0 5) (rekeyTo 4 0) .answer) 17
     ∷ eqb (given (namingKey 0 5) (rekeyTo 4 1) .answer) 16
     ∷ eqb (given (oneKeyed 2 1 0 0) (rekeyTo 5 0) .answer) 18
     ∷ eqb (given (oneKeyed 2 1 0 2) (rekeyTo 5 0) .answer) 18
-    -- 1, 2, 13, 14, 15, 16, 6, each where those behind it apply too
-    ∷ eqb (commanded (0x03 ∷ []) [] (0x00 ∷ []) [] .answer) 1
-    ∷ eqb (commanded imageB (oneNumber 64) (0x00 ∷ []) [] .answer) 2
+    -- 1, 2, 19, 13, 14, 15, 16, 6, each where those behind it apply too
+    ∷ eqb (commanded (0x03 ∷ []) [] 0 (0x00 ∷ []) [] .answer) 1
+    ∷ eqb (commanded imageB (oneNumber 64) 0 (0x00 ∷ []) [] .answer) 2
+    -- 19: a desk behind the last, and a key command of another desk than the key office's, also one of a wrong length; no first octet is none
+    ∷ eqb (commanded imageB (oneNumber 63) 3 (0x00 ∷ []) [] .answer) 19
+    ∷ eqb (commanded imageB (oneNumber 63) 1 (0x02 ∷ []) [] .answer) 19
+    ∷ eqb (commanded imageB (oneNumber 63) 2 (forKey 0x03 5) [] .answer) 19
+    ∷ eqb (commanded imageB (oneNumber 63) 1 (0x07 ∷ 0x00 ∷ []) [] .answer) 19
+    ∷ eqb (commanded imageB (oneNumber 63) 1 [] [] .answer) 13
+    -- and 14 for the guest's desk, as every body of an older version is desk 1's
+    ∷ eqb (commanded imageB (oneNumber 63) 1 status space .answer) 0
+    ∷ eqb (commanded imageB (oneNumber 63) 2 status space .answer) 14
     ∷ eqb (given imageB (0x1F ∷ 0x00 ∷ []) .answer) 13
     ∷ eqb (given imageB (spoken 0x1C nine) .answer) 13
     ∷ eqb (given imageB (spoken 0x1B nine) .answer) 13
@@ -174,8 +183,8 @@ commandCases =
     ∷ eqb (given imageB (spoken 0x1B (nine ++ bytes 4 0)) .answer) 15
     ∷ eqb (given (inState 1) (spoken 0x1B (nine ++ (channel ++ bytes 4 0))) .answer) 16
     ∷ eqb (given (inState 0) (spoken 0x16 (nine ++ (0x00 ∷ 0x01 ∷ bytes 12 0))) .answer) 16
-    ∷ eqb (commanded imageB (oneNumber 63) readNumber (replicate 16 0) .answer) 6
-    ∷ eqb (commanded imageB (oneNumber 63) ping (replicate 2 0) .answer) 6
+    ∷ eqb (commanded imageB (oneNumber 63) 0 readNumber (replicate 16 0) .answer) 6
+    ∷ eqb (commanded imageB (oneNumber 63) 0 ping (replicate 2 0) .answer) 6
     ∷ []
 
 abbrev pub CommandCasesHold : Type 0

@@ -1,4 +1,5 @@
--- Management round trips. After a stop, sending and checking under that SPI answer 4. A start that names the right channels then answers 0,
+-- Management round trips. After a stop, sending and checking under that SPI answer 4, to every desk. A start that names the right channels,
+-- from a desk that sees the entry, then answers 0,
 -- and image and numbers are again what they were before the stop, so that every later call gives what it would have given. The same
 -- holds after stop, expire, rekey and start. A number that was set is read back.
 -- Assumes nothing.
@@ -13,7 +14,7 @@ use Rattle.link.specs.Calls.{Left, handed, secured, checked}
 use Rattle.commands.specs.Commanding.{commanded}
 use Rattle.judging.specs.Said.{Said}
 use Rattle.promises.specs.Frames.{FrameRules, RightField, spiOn}
-use Rattle.promises.specs.Images.{shapeIn, spiAt, keyIdAt}
+use Rattle.promises.specs.Images.{shapeIn, spiAt, keyIdAt, Sees}
 use Rattle.command_promises.specs.Answers.{FormRules}
 use Rattle.command_promises.specs.Rows.{Names, IsChannel}
 
@@ -43,22 +44,25 @@ pub record Restored (image numbers : List ℕ) (x : Left) : Type 0 where
 
 -- what image and numbers after a stop mean for entry e's association
 pub record Stopped (image numbers : List ℕ) (e : ℕ) (after last : List ℕ) : Type 0 where
-  pub sending : (said : Said) (frame output : List ℕ) → FrameRules said frame 1 → RightField said frame
+  pub sending : (said : Said) (frame output : List ℕ) → said .desk ≤ 2 → FrameRules said frame 1 → RightField said frame
       → secured after last said (spiAt image e) frame output .answer ≡ 4
-  pub checking : (said : Said) (frame output : List ℕ) → FrameRules said frame 2 → RightField said frame → spiOn said frame ≡ spiAt image e
+  pub checking : (said : Said) (frame output : List ℕ) → said .desk ≤ 2 → FrameRules said frame 2 → RightField said frame → spiOn said frame ≡ spiAt image e
       → checked after last said frame output .answer ≡ 4
-  pub started : (start output : List ℕ) → Starts image e start → Restored image numbers (commanded after last start output)
-  pub rekeyed : (expire out rekey out2 start out3 : List ℕ) → Speaks image e 0x19 expire → Rekeys image e rekey → Starts image e start
-      → let y = commanded after last expire out in
-      let z = commanded (y .image) (y .numbers) rekey out2 in
-      Restored image numbers (commanded (z .image) (z .numbers) start out3)
+  pub started : (desk : ℕ) (start output : List ℕ) → Sees image desk e → Starts image e start
+      → Restored image numbers (commanded after last desk start output)
+  pub rekeyed : (desk : ℕ) (expire out rekey out2 start out3 : List ℕ) → Sees image desk e → Speaks image e 0x19 expire → Rekeys image e rekey → Starts image e start
+      → let y = commanded after last desk expire out in
+      let z = commanded (y .image) (y .numbers) desk rekey out2 in
+      Restored image numbers (commanded (z .image) (z .numbers) desk start out3)
 
 pub record Management : Type 0 where
-  pub stopped : (image numbers stop output : List ℕ) (e : ℕ) → Octets image → length numbers ≡ 32 → Names image stop e
-      → Octets stop → octet stop 0 ≡ 0x1E → let x = commanded image numbers stop output in
+  pub stopped : (image numbers : List ℕ) (desk : ℕ) (stop output : List ℕ) (e : ℕ) → Octets image → length numbers ≡ 32
+      → Names image desk stop e
+      → Octets stop → octet stop 0 ≡ 0x1E → let x = commanded image numbers desk stop output in
       x .answer ≡ 0 → Stopped image numbers e (x .image) (x .numbers)
-  pub readBack : (image numbers set read output room : List ℕ) (e : ℕ) → Octets image → length numbers ≡ 32 → Names image set e
+  pub readBack : (image numbers : List ℕ) (desk reader : ℕ) (set read output room : List ℕ) (e : ℕ) → Octets image → length numbers ≡ 32
+      → Names image desk set e → Sees image reader e
       → Octets set → octet set 0 ≡ 0x1A → Speaks image e 0x10 read → 17 ≤ length room
-      → let x = commanded image numbers set output in
-      x .answer ≡ 0 → let y = commanded (x .image) (x .numbers) read room in
+      → let x = commanded image numbers desk set output in
+      x .answer ≡ 0 → let y = commanded (x .image) (x .numbers) reader read room in
       (y .answer ≡ 0) × (handed y ≡ 0x90 ∷ 0 ∷ 14 ∷ (bytes 2 (spiAt image e) ++ bytes 12 (numberAt 5 12 set)))

@@ -8,7 +8,7 @@ use Rattle.commands.specs.Commanding.{commanded, commandedCut}
 use Rattle.promises.specs.Refusals.{Untouched}
 
 pub record CommandRefusals : Type 0 where
-  pub whole : (image numbers command output : List ℕ) → let x = commanded image numbers command output in
+  pub whole : (image numbers : List ℕ) (desk : ℕ) (command output : List ℕ) → let x = commanded image numbers desk command output in
       (x .answer ≡ 0 → ⊥) → Untouched image numbers output x
-  pub cut : (image numbers command output : List ℕ) (j : ℕ)
-      → (commanded image numbers command output .answer ≡ 0 → ⊥) → commandedCut image numbers command output j ≡ image
+  pub cut : (image numbers : List ℕ) (desk : ℕ) (command output : List ℕ) (j : ℕ)
+      → (commanded image numbers desk command output .answer ≡ 0 → ⊥) → commandedCut image numbers desk command output j ≡ image

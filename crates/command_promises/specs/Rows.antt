@@ -12,7 +12,7 @@ use lib.Dec.{eqb, leb}
 use lib.ListN.{length}
 use Rattle.octets.specs.Numbers.{numberAt}
 use Rattle.promises.specs.Images.{shapeIn, countIn, spiAt, kindAt, stateAt, spacecraftAt, mapAt, windowAt, keyIdAt, lastAt, ServesChannel, InWindow}
-use Rattle.promises.specs.Images.{keyCountIn, idOfKey, KeyThere, KeyInState}
+use Rattle.promises.specs.Images.{keyCountIn, idOfKey, KeyThere, KeyInState, Sees}
 
 pub record Row : Type 1 where
   -- the octets of the whole command
@@ -29,11 +29,12 @@ pub record Row : Type 1 where
   -- image and command: the octets of the reply
   pub reply : List ℕ → List ℕ → ℕ
 
--- ---- the entry that a command names
+-- ---- the entry that a command of a desk names
 
-pub record Names (image command : List ℕ) (e : ℕ) : Type 0 where
+pub record Names (image : List ℕ) (desk : ℕ) (command : List ℕ) (e : ℕ) : Type 0 where
   pub entry : e < countIn image
   pub spi : spiAt image e ≡ numberAt 3 2 command
+  pub seen : Sees image desk e
 
 -- ---- what several have in common
 

@@ -1,9 +1,10 @@
--- Demand 3 with management commands (document 02, requests 5 and 9): in every run, under every association, numbers only rise. A run begins with a
--- load of any image, and goes on with loads, sendings, checks and commands, with any arguments, any of which may be cut after any of its
--- stores, after which only a load comes. Under each association the numbers of frames handed out strictly rise, and so do those of data
--- released, through stop, expire, rekey, start and changes of window and number. A sent number exceeds the one before by at most 1 plus 64
--- for each load between them, if no set number for that association, whole or cut, came between. The image stays valid, and only states,
--- windows, key IDs and marks of its bodies and states of its keys change. It supposes only that the image and the commands are octets.
+-- Demand 3 with management commands (document 02, requests 5, 9 and 10): in every run, under every association, numbers only rise. A run
+-- begins with a load of any image, and goes on with loads, sendings, checks and commands, by any desks and with any arguments, any of which
+-- may be cut after any of its stores, after which only a load comes. Under each association the numbers of frames handed out strictly rise,
+-- and so do those of data released, through stop, expire, rekey, start and changes of window and number. A sent number exceeds the one
+-- before by at most 1 plus 64 for each load between them, if no set number for that association, whole or cut, came between. The image
+-- stays valid, and only states, windows, key IDs and marks of its bodies and states of its keys change. It supposes only that the image and
+-- the commands are octets.
 -- Assumes nothing.
 use Prim.Native.Nat.{ℕ, _+_, _*_, _≤_, _<_}
 use mathlib.Core.Path.{_≡_}
@@ -22,17 +23,17 @@ use Rattle.promises.specs.Runs.{State, kept, restart, sent, released, Once, beg
 
 -- ---- a run
 
--- A step of a run without commands; or a command, with its output, which may be cut after j of its stores, and the load that then comes is
--- handed any numbers.
+-- A step of a run without commands; or a command of a desk, with its output, which may be cut after j of its stores, and the load that then
+-- comes is handed any numbers.
 pub data Step : Type 0 where
   call : frames.Step → Step
-  command : List ℕ → List ℕ → Step
-  commandCut : List ℕ → List ℕ → ℕ → List ℕ → Step
+  command : ℕ → List ℕ → List ℕ → Step
+  commandCut : ℕ → List ℕ → List ℕ → ℕ → List ℕ → Step
 
 unfoldable pub after : State → Step → State
 after x (call v) = frames.after x v
-after x (command c output) = kept (commanded (x .image) (x .numbers) c output)
-after x (commandCut c output j any) = kept (loaded (commandedCut (x .image) (x .numbers) c output j) any)
+after x (command desk c output) = kept (commanded (x .image) (x .numbers) desk c output)
+after x (commandCut desk c output j any) = kept (loaded (commandedCut (x .image) (x .numbers) desk c output j) any)
 
 unfoldable pub ran : State → List Step → State
 ran x [] = x
@@ -42,8 +43,8 @@ ran x (v ∷ vs) = ran (after x v) vs
 unfoldable pub OfOctets : List Step → Type 0
 OfOctets [] = Unit {0}
 OfOctets (call v ∷ vs) = OfOctets vs
-OfOctets (command c output ∷ vs) = Octets c × OfOctets vs
-OfOctets (commandCut c output j any ∷ vs) = Octets c × OfOctets vs
+OfOctets (command desk c output ∷ vs) = Octets c × OfOctets vs
+OfOctets (commandCut desk c output j any ∷ vs) = Octets c × OfOctets vs
 
 -- ---- what it shows of the association of entry e: what a run without commands shows, and a set number
 
@@ -56,15 +57,15 @@ told [] = []
 told (s ∷ r) = saw s ∷ told r
 
 -- a set number, tag 1A, for the entry's SPI, which is not refused
-abbrev pub setsNumber : ℕ → State → List ℕ → List ℕ → Bool
-setsNumber e x c output =
-    eqb (commanded (x .image) (x .numbers) c output .answer) 0
+abbrev pub setsNumber : ℕ → State → ℕ → List ℕ → List ℕ → Bool
+setsNumber e x desk c output =
+    eqb (commanded (x .image) (x .numbers) desk c output .answer) 0
     && (eqb (octet c 0) 0x1A && eqb (numberAt 3 2 c) (spiAt (x .image) e))
 
 unfoldable pub shows : ℕ → State → Step → List Shown
 shows e x (call v) = told (frames.shows e x v)
-shows e x (command c output) = cond (setsNumber e x c output) (numbered ∷ []) []
-shows e x (commandCut c output j any) = cond (setsNumber e x c output) (numbered ∷ saw restart ∷ []) (saw restart ∷ [])
+shows e x (command desk c output) = cond (setsNumber e x desk c output) (numbered ∷ []) []
+shows e x (commandCut desk c output j any) = cond (setsNumber e x desk c output) (numbered ∷ saw restart ∷ []) (saw restart ∷ [])
 
 unfoldable pub trace : ℕ → State → List Step → List Shown
 trace e x [] = []

@@ -1,85 +1,33 @@
--- The tests that come first of a command, one by one; past them the reply is that of the entry that it names, and a refusal by them is the
--- whole command's.
+-- Past the tests that come first the reply is that of the entry that a command names, and a refusal by them is the whole command's.
 -- Assumes nothing.
 use Prim.Native.Nat.{ℕ}
 use mathlib.Core.Path.{_≡_, sym, ap, _∙_}
-use mathlib.Core.Bool.{true, false, not}
-use mathlib.Core.List.{List, _++_}
-use native.Mathlib.Omega.{arith}
-use Rattle.image.specs.Image.{validImage}
-use Rattle.numbers.specs.Numbers.{agrees}
-use Rattle.association.specs.declared.search.Found.the-variants as found
-use Rattle.judging.specs.Answers.{Test, first, refusal}
+use mathlib.Core.List.{List}
+use Rattle.judging.specs.Answers.{first, refusal}
 use Rattle.judging.specs.Verdicts.{Refuses}
 use Rattle.judging.specs.declared.answers.Answer.{Answer}
-use Rattle.judging.proofs.First.{passes, passed, stops}
+use Rattle.judging.proofs.First.{stops}
 use Rattle.command_form.specs.Form.{valueOf}
-use Rattle.procedures.specs.Procedures.{procedureIs, procedureOf, called}
-use Rattle.procedures.specs.declared.procedure.Called.the-variants as calls
+use Rattle.procedures.specs.Procedures.{procedureIs}
 use Rattle.procedures.specs.declared.procedure.Procedure as code
-use Rattle.procedures.proofs.Calling.{called-long}
-use Rattle.commands.specs.Commanding.{callsNone, entryNamed, isNothing, addressTests, testsAt, replyAt, commandReply}
-use Rattle.commands.specs.Steps.{Addresses, replyUnder}
+use Rattle.addressing.specs.Addressing.{addressTests}
+use Rattle.addressing.specs.Steps.{Addresses}
+use Rattle.addressing.proofs.Passing.{past-address}
+use Rattle.commands.specs.Commanding.{testsAt, replyAt, commandReply}
+use Rattle.commands.specs.Steps.{replyUnder}
 
--- ---- one by one
-
-module _ (image last command : List ℕ) where
-  abbrev front : ℕ
-  front = first (addressTests image last command)
-
-  pub by-1 : validImage image ≡ false → front ≡ 1
-  unfolding first
-  by-1 v = rw v
-
-  module _ (v : validImage image ≡ true) where
-    pub by-2 : agrees image last ≡ false → front ≡ 2
-    unfolding first
-    by-2 a = rw (v, a)
-
-    module _ (a : agrees image last ≡ true) where
-      pub by-13 : called command ≡ calls.Nothing → front ≡ 13
-      unfolding first
-      by-13 n = rw (v, a, n)
-
-      module _ (p : code.Procedure) (c : called command ≡ calls.Procedure p) where
-        pub by-14 : entryNamed (procedureIs p) image (valueOf command) ≡ found.Nothing → front ≡ 14
-        unfolding first
-        by-14 n = rw (v, a, c, n)
-
-        pub addresses : (e : ℕ) → entryNamed (procedureIs p) image (valueOf command) ≡ found.At e → Addresses image last command p e
-        unfolding first
-        addresses e f =
-            record {
-              answer = rw (v, a, c, f);
-              procedure = rw c;
-              entry = f;
-              long = called-long command p c;
-            }
-
-  -- ---- past them
-
-  pub past-address : (us : List Test) → front ≡ 0 → first (addressTests image last command ++ us) ≡ first us
-  past-address us z =
-      let t1 = passed 1 (not (validImage image)) _ (omega arith) z in
-      let t2 = passed 2 (not (agrees image last)) _ (omega arith) (t1 .1) in
-      let t13 = passed 13 (callsNone (called command)) _ (omega arith) (t2 .1) in
-      let t14 = passed 14 (isNothing (entryNamed (procedureOf command) image (valueOf command))) _ (omega arith) (t13 .1) in
-      passes 1 (not (validImage image)) _ (t1 .0)
-      ∙ passes 2 (not (agrees image last)) _ (t2 .0)
-      ∙ passes 13 (callsNone (called command)) _ (t13 .0)
-      ∙ passes 14 (isNothing (entryNamed (procedureOf command) image (valueOf command))) _ (t14 .0)
-
-  pub command-refused : (room : ℕ) (a : Answer) → Refuses a front → Refuses a (commandReply image last command room .answer)
+module _ (image last : List ℕ) (desk : ℕ) (command : List ℕ) where
+  pub command-refused : (room : ℕ) (a : Answer) → Refuses a (first (addressTests image last desk command)) → Refuses a (commandReply image last desk command room .answer)
   unfolding commandReply
   command-refused room a r =
-      let same = stops (addressTests image last command) _ (r .some) in
+      let same = stops (addressTests image last desk command) _ (r .some) in
       record { answer = r .answer ∙ ap refusal (sym same); some = rw same (r .some) }
 
-  pub command-under : (room : ℕ) (p : code.Procedure) (e : ℕ) → Addresses image last command p e
-      → replyUnder p image last e (valueOf command) room ≡ commandReply image last command room
+  pub command-under : (room : ℕ) (p : code.Procedure) (e : ℕ) → Addresses image last desk command p e
+      → replyUnder p image last e (valueOf command) room ≡ commandReply image last desk command room
   unfolding commandReply
   command-under room p e d =
       let k = procedureIs p in
       let value = valueOf command in
-      ap (λ (n : ℕ). replyAt n k image last e value) (sym (past-address (testsAt k image last e value room) (d .answer)))
+      ap (λ (n : ℕ). replyAt n k image last e value) (sym (past-address image last desk command (testsAt k image last e value room) (d .answer)))
       ∙ rw (d .procedure, d .entry)

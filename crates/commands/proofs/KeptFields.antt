@@ -3,7 +3,7 @@
 -- Assumes nothing.
 use mathlib.Core.Path.{_≡_, refl, sym, ap, ap₂, _∙_}
 use mathlib.Core.Logic.{_≢_, inl, inr}
-use mathlib.Core.Bool.{Bool, true, not, _&&_, _||_}
+use mathlib.Core.Bool.{Bool, true, false, not, _&&_, _||_}
 use mathlib.Core.List.{List}
 use Prim.Native.Nat.{ℕ, _+_, _≤_, _<_}
 use native.Mathlib.Decide.{ℕ-discrete}
@@ -20,10 +20,10 @@ use Rattle.kinds.specs.Kinds.{named}
 use Rattle.kinds.specs.declared.kinds.Named.{Named}
 use Rattle.kinds.specs.declared.kinds.Named.the-variants as naming
 use Rattle.marks.specs.Gray.{codeLength, ungray}
-use Rattle.bodies.specs.Body.{stateOf, operational, keyIdOf, serviceOf, kindIn, directionOf, spacecraftOf, channelOf, mapOf, maskOf, markOf}
-use Rattle.bodies.specs.Body.{serviceOk, directionOk, stateOk, kindOk, windowOk, markOk, bodyOk}
+use Rattle.bodies.specs.Body.{stateOf, operational, keyIdOf, serviceOf, kindIn, directionOf, spacecraftOf, channelOf, mapOf, maskOf, markOf, ownerOf}
+use Rattle.bodies.specs.Body.{serviceOk, directionOk, stateOk, kindOk, windowOk, markOk, ownerOk, bodyOk}
 use Rattle.bodies.specs.Layout.{servicePlace, kindPlace, directionPlace, statePlace, spacecraftPlace, channelPlace, mapPlace, windowPlace}
-use Rattle.bodies.specs.Layout.{maskPlace, maskLength, idLength, fieldsEnd, layoutOf, Lawful}
+use Rattle.bodies.specs.Layout.{maskPlace, maskLength, idLength, fieldsEnd, ownerPlace, layoutOf, Lawful}
 use Rattle.keys.specs.Keys.{active}
 use Rattle.bodies.proofs.Layouts.{lawful, fields-inside, id-before}
 use Rattle.image.specs.Image.{versionOf, countOf, layout, bodyAt, bodyOf, markIn, keyIn, keyIdIn, entryOk, keyedOk, validImage}
@@ -42,6 +42,7 @@ pub record SameRest (version : ℕ) (body other : List ℕ) : Type 0 where
   pub map : mapOf other ≡ mapOf body
   pub mask : maskOf other ≡ maskOf body
   pub mark : markOf version other ≡ markOf version body
+  pub owner : ownerOf version other ≡ ownerOf version body
 
 -- an octet of a body that no command stores to, but for the mark
 pub record Steady (version k : ℕ) : Type 0 where
@@ -49,6 +50,16 @@ pub record Steady (version k : ℕ) : Type 0 where
   pub high : k ≢ windowPlace
   pub low : k ≢ windowPlace + 1
   pub id : layoutOf version .keys ≡ true → (k ≢ layoutOf version .key) × (k ≢ layoutOf version .key + 1)
+
+-- the owner stands behind the mark, if the version has owners
+same-owner : (version : ℕ) (body other : List ℕ)
+    → ((k : ℕ) → layoutOf version .mark ≤ k → k < layoutOf version .body → octet other k ≡ octet body k)
+    → ownerOf version other ≡ ownerOf version body
+same-owner version body other same = of (layoutOf version .owners) refl
+  where
+    of : (t : Bool) → layoutOf version .owners ≡ t → ownerOf version other ≡ ownerOf version body
+    of true has = rw has (same (ownerPlace (layoutOf version)) (omega arith) (lawful version .owner has))
+    of false none = rw none
 
 pub same-rest : (version : ℕ) (body other : List ℕ) → ((k : ℕ) → k < layoutOf version .body → Steady version k → octet other k ≡ octet body k)
     → SameRest version body other
@@ -88,6 +99,7 @@ same-rest version body other same =
           ap ungray
           (numberAt-same (layoutOf version .mark) codeLength other body
           (λ i h. last (layoutOf version .mark + i) (omega arith) (omega arith)));
+      owner = same-owner version body other last;
     }
 
 same-kind : (version : ℕ) (body other : List ℕ) → SameRest version body other
@@ -103,12 +115,14 @@ rules-again version body other f e state window =
     let h2 : directionOk body ≡ true = search (and-left, and-right) in
     let h3 : kindOk version (named (kindIn body)) body ≡ true = search (and-left, and-right) in
     let h4 : markOk version body ≡ true = search (and-left, and-right) in
+    let h5 : ownerOk version body ≡ true = search (and-left, and-right) in
     let g1 : serviceOk other ≡ true = cc in
     let g2 : directionOk other ≡ true = cc in
     let g3 : kindOk version (named (kindIn other)) other ≡ true =
     ap (λ (k : ℕ). kindOk version (named k) other) (f .kind) ∙ same-kind version body other f (named (kindIn body)) ∙ h3 in
     let g4 : markOk version other ≡ true = cc in
-    ap₂ _&&_ (ap₂ _&&_ (ap₂ _&&_ (ap₂ _&&_ (ap₂ _&&_ g1 g2) state) g3) window) g4
+    let g5 : ownerOk version other ≡ true = cc in
+    ap₂ _&&_ (ap₂ _&&_ (ap₂ _&&_ (ap₂ _&&_ (ap₂ _&&_ (ap₂ _&&_ g1 g2) state) g3) window) g4) g5
 
 -- ---- two images that differ at most in state and window of entry i and, where there is a key part, in the key's ID
 

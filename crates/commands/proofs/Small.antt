@@ -42,27 +42,27 @@ reply-short procedure.Deactivation image e last value v = omega arith
 reply-short procedure.Inventory image e last value v =
     reply-most image (partAt image) (firstNamed value) (lastNamed value) (keyCount image) (keys-few image v)
 
-few : (image last command : List ℕ) (q : Reply) → Where image last command q → length (q .stores) ≤ 16
-few image last command q (at p i calls names listed spi ready is) = rw is (does p image last i _ names ready .few)
-few image last command q (nowhere none same) = rw none (omega arith)
-few image last command q (turning id state one turns same) = rw one (omega arith)
+few : (image last : List ℕ) (desk : ℕ) (command : List ℕ) (q : Reply) → Where image last desk command q → length (q .stores) ≤ 16
+few image last desk command q (at p i calls names listed spi ready is) = rw is (does p image last i _ names ready .few)
+few image last desk command q (nowhere none same) = rw none (omega arith)
+few image last desk command q (turning id state one turns same) = rw one (omega arith)
 
-pub commanded-small : (image last command output : List ℕ) → Octets image → Octets command → length last ≡ 32
-    → Small (commanded image last command output)
+pub commanded-small : (image last : List ℕ) (desk : ℕ) (command output : List ℕ) → Octets image → Octets command → length last ≡ 32
+    → Small (commanded image last desk command output)
 unfolding commanded
-commanded-small image last command output octets spoken thirtyTwo = by-answer (ℕ-discrete (q .answer) 0)
+commanded-small image last desk command output octets spoken thirtyTwo = by-answer (ℕ-discrete (q .answer) 0)
   where
     q : Reply
-    q = commandReply image last command (length output)
+    q = commandReply image last desk command (length output)
 
     by-answer : Dec (q .answer ≡ 0) → Small (left q image last output)
     by-answer (yes z) =
-        let d : Done image last command (length output) = done image last command (length output) z in
+        let d : Done image last desk command (length output) = done image last desk command (length output) z in
         rw (left-done q image last output z)
         (record {
           short =
               rw (d .reply)
               (omega (arith, reply-short (d .procedure) image (d .entry) (numberOf last (d .entry)) (valueOf command) (d .valid)));
-          few = few image last command q (place image last command (length output) octets spoken thirtyTwo d);
+          few = few image last desk command q (place image last desk command (length output) octets spoken thirtyTwo d);
         })
     by-answer (no z) = rw (left-refused q image last output z) (small-refused (q .answer) image last output)

@@ -1,52 +1,25 @@
--- Document 02, requests 5 and 9: a command is decided, then carried out, as a frame is. What it leaves, from the image, the numbers and the output as
--- they were; and the image where power fails after j of its stores. The answer is the first that applies of 1, 2, 13, 14, 15, 16, 17, 18 and 6.
+-- Document 02, requests 5, 9 and 10: a command is decided, then carried out, as a frame is. What it leaves, from the image, the numbers and
+-- the output as they were; and the image where power fails after j of its stores. The answer is the first that applies of 1, 2, 19, 13, 14,
+-- 15, 16, 17, 18 and 6.
 -- Assumes nothing.
 use Prim.Native.Nat.{ℕ}
-use mathlib.Core.Bool.{Bool, true, false, cond, not}
+use mathlib.Core.Bool.{cond, not}
 use mathlib.Core.List.{List, [], _∷_, _++_}
 use lib.Dec.{eqb, ltb}
 use lib.ListN.{length}
 use Rattle.marks.specs.declared.plans.Store.{Store}
 use Rattle.bodies.specs.Body.{stateOf}
-use Rattle.image.specs.Image.{versionOf, bodyOf, validImage}
+use Rattle.image.specs.Image.{versionOf, bodyOf}
 use Rattle.association.specs.Association.{indexOf}
-use Rattle.numbers.specs.Numbers.{numberOf, agrees}
-use Rattle.association.specs.Search.{withSpi}
-use Rattle.association.specs.declared.search.Found.{Found}
-use Rattle.association.specs.declared.search.Found.the-variants as found
+use Rattle.numbers.specs.Numbers.{numberOf}
 use Rattle.judging.specs.Answers.{Test, first}
 use Rattle.judging.specs.Replies.{Reply}
 use Rattle.link.specs.Calls.{Left, left, cut}
-use Rattle.command_form.specs.Form.{valueOf, spiNamed}
-use Rattle.procedures.specs.Procedures.{Procedure, called, procedureOf}
-use Rattle.procedures.specs.declared.procedure.Called.{Called}
-use Rattle.procedures.specs.declared.procedure.Called.the-variants as calls
-
--- ---- which procedure, and which entry
-
-abbrev pub callsNone : Called → Bool
-callsNone (calls.Procedure p) = false
-callsNone calls.Nothing = true
-
--- the entry that a value names, and whether the table has it; a procedure that names none is carried out with entry 0, which it neither
--- reads nor changes
-unfoldable pub entryNamed : Procedure → List ℕ → List ℕ → Found
-entryNamed p image value = cond (p .names) (withSpi image (spiNamed value)) (found.At 0)
-
-abbrev pub isNothing : Found → Bool
-isNothing (found.At i) = false
-isNothing found.Nothing = true
+use Rattle.command_form.specs.Form.{valueOf}
+use Rattle.procedures.specs.Procedures.{Procedure, procedureOf}
+use Rattle.addressing.specs.Addressing.{entryNamed, addressTests}
 
 -- ---- decided
-
--- the tests that come first
-abbrev pub addressTests : List ℕ → List ℕ → List ℕ → List Test
-addressTests image last command =
-    (1, not (validImage image))
-    ∷ (2, not (agrees image last))
-    ∷ (13, callsNone (called command))
-    ∷ (14, isNothing (entryNamed (procedureOf command) image (valueOf command)))
-    ∷ []
 
 -- under an entry and its last number, with that much room in the output
 abbrev pub procedureTests : Procedure → List ℕ → ℕ → ℕ → List ℕ → ℕ → List Test
@@ -75,21 +48,21 @@ replyAt answer p image last e value =
       result = result;
     }
 
-unfoldable pub commandReply : List ℕ → List ℕ → List ℕ → ℕ → Reply
-commandReply image last command room =
+unfoldable pub commandReply : List ℕ → List ℕ → ℕ → List ℕ → ℕ → Reply
+commandReply image last desk command room =
     let p = procedureOf command in
     let value = valueOf command in
-    let e = indexOf (entryNamed p image value) in
-    replyAt (first (addressTests image last command ++ testsAt p image last e value room)) p image last e value
+    let e = indexOf (entryNamed p image desk value) in
+    replyAt (first (addressTests image last desk command ++ testsAt p image last e value room)) p image last e value
 
--- ---- carried out: image, numbers, command, output
+-- ---- carried out: image, numbers, desk, command, output
 
-unfoldable pub commanded : List ℕ → List ℕ → List ℕ → List ℕ → Left
-commanded image last command output = left (commandReply image last command (length output)) image last output
+unfoldable pub commanded : List ℕ → List ℕ → ℕ → List ℕ → List ℕ → Left
+commanded image last desk command output = left (commandReply image last desk command (length output)) image last output
 
 -- the stores that are made, a refusal makes none; and the image where it is cut after j of them
 abbrev pub madeBy : Reply → List Store
 madeBy q = cond (eqb (q .answer) 0) (q .stores) []
 
-unfoldable pub commandedCut : List ℕ → List ℕ → List ℕ → List ℕ → ℕ → List ℕ
-commandedCut image last command output j = cut (commandReply image last command (length output)) image j
+unfoldable pub commandedCut : List ℕ → List ℕ → ℕ → List ℕ → List ℕ → ℕ → List ℕ
+commandedCut image last desk command output j = cut (commandReply image last desk command (length output)) image j

@@ -1,10 +1,9 @@
 // Document 02, requests 5 and 9: the command call, beside load, securing and checking. A command is decided, then carried out: its stores, the
 // managed number, then the reply. The call is what its definition of specs/Commanding says, for every input.
-mod address;
 mod deciding;
 
-use address::Address;
-use address::address_of;
+use addressing::Address;
+use addressing::address_of;
 use command_form::FRONT;
 use deciding::decide;
 use judging::Grant;
@@ -97,14 +96,15 @@ fn cut_under(
 pub fn command_cut(
     image: &mut [u8],
     numbers: Numbers,
+    desk: u8,
     command: &[u8],
     room: usize,
     stores: u32,
 ) -> u32
-    ensures { λ r. ⌜ r ≡ length (take stores (madeBy (commandReply (now (image .entry)) (numbers .last) (now (command .entry)) room))) ⌝ }
-    ensures { λ _. ⌜ now (image .exit) ≡ cut (commandReply (now (image .entry)) (numbers .last) (now (command .entry)) room) (now (image .entry)) stores ⌝ }
+    ensures { λ r. ⌜ r ≡ length (take stores (madeBy (commandReply (now (image .entry)) (numbers .last) desk (now (command .entry)) room))) ⌝ }
+    ensures { λ _. ⌜ now (image .exit) ≡ cut (commandReply (now (image .entry)) (numbers .last) desk (now (command .entry)) room) (now (image .entry)) stores ⌝ }
 {
-    let addressed = address_of(image, numbers, command);
+    let addressed = address_of(image, numbers, desk, command);
     match addressed {
         Address::Refused(_) => 0,
         Address::To(procedure, entry) => {
@@ -121,11 +121,17 @@ pub fn command_cut(
     }
 }
 
-// A command, and its reply to the front of the output.
-pub fn command(image: &mut [u8], numbers: Numbers, command: &[u8], output: &mut [u8]) -> Outcome
-    ensures { λ r. ⌜ leaving r (now (image .exit)) (now (output .exit)) ≡ commanded (now (image .entry)) (numbers .last) (now (command .entry)) (now (output .entry)) ⌝ }
+// A command from a desk, and its reply to the front of the output.
+pub fn command(
+    image: &mut [u8],
+    numbers: Numbers,
+    desk: u8,
+    command: &[u8],
+    output: &mut [u8],
+) -> Outcome
+    ensures { λ r. ⌜ leaving r (now (image .exit)) (now (output .exit)) ≡ commanded (now (image .entry)) (numbers .last) desk (now (command .entry)) (now (output .entry)) ⌝ }
 {
-    let addressed = address_of(image, numbers, command);
+    let addressed = address_of(image, numbers, desk, command);
     match addressed {
         Address::Refused(answer) => refused(answer, numbers),
         Address::To(procedure, entry) => {

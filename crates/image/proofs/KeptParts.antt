@@ -17,10 +17,10 @@ use Rattle.octets.specs.Numbers.{numberAt}
 use Rattle.octets.proofs.Alls.{all-same}
 use Rattle.octets.proofs.Outside.{Apart, Outside, Changed, same-number, same-part}
 use Rattle.marks.specs.Gray.{codeLength}
-use Rattle.bodies.specs.Body.{bodyIn, keyIdOf, markOf, markOk, bodyOk}
-use Rattle.bodies.specs.Layout.{keyLength, idLength, layoutOf}
+use Rattle.bodies.specs.Body.{bodyIn, keyIdOf, markOf, ownerOf, markOk, bodyOk}
+use Rattle.bodies.specs.Layout.{keyLength, idLength, ownerPlace, layoutOf}
 use Rattle.bodies.proofs.Layouts.{lawful, fields-inside, id-before}
-use Rattle.bodies.proofs.SameFields.{SameFields, same-fields, same-rules}
+use Rattle.bodies.proofs.SameFields.{SameFields, same-fields, same-owner, same-rules}
 use Rattle.image.specs.Image.{versionOf, countOf, layout, entryPlace, spiOf, positionOf, bodyAt, bodyOf, markAt, markIn}
 use Rattle.image.specs.Image.{partAt, keyCount, keyIn, keyIdIn, keyOf, imageSize, laidOut, entryOk, partSpi, lastOk, keyedOk, keysOk, validImage}
 use Rattle.keys.specs.Keys.{active, keyUnder, keyPartOk}
@@ -167,6 +167,10 @@ module _ {image : List ℕ} {i at n : ℕ} {after : List ℕ} (w : Within image 
       by-entry (no other) =
           record { long = long-body j; outside = λ p out. ap (λ (b : List ℕ). octet b p) (kept-body j other) }
 
+  -- the owners, if the octets stand before them
+  pub kept-owner : at + n ≤ ownerPlace (layout image) → (j : ℕ) → ownerOf (versionOf image) (bodyOf after j) ≡ ownerOf (versionOf image) (bodyOf image j)
+  kept-owner h j = same-owner (versionOf image) h (kept-octets j)
+
   -- the other marks
   pub kept-mark : (j : ℕ) → j ≢ i → markIn after j ≡ markIn image j
   unfolding markIn
@@ -229,7 +233,8 @@ module _ (image : List ℕ) (i : ℕ) (after : List ℕ) (listed : i < countOf i
     allowed-rules j h =
         ap₂ _&&_ (kept-entry mark-within j h)
         (ap (λ (v : ℕ). bodyOk v (bodyOf after j)) version-same
-        ∙ same-rules (versionOf image) (bodyOf image j) (bodyOf after j) (kept-fields j) (allowed-mark j h))
+        ∙ same-rules (versionOf image) (bodyOf image j) (bodyOf after j) (kept-fields j) (allowed-mark j h)
+        (kept-owner mark-within (omega arith) j))
 
     pub kept-valid : validImage after ≡ true
     unfolding validImage

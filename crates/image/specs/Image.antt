@@ -9,7 +9,7 @@ use lib.ListN.{length}
 use Rattle.octets.specs.Lists.{octet, part, all}
 use Rattle.octets.specs.Numbers.{numberAt}
 use Rattle.bodies.specs.Body.{bodyIn, stateOf, operational, keyIdOf, markOf, bodyOk}
-use Rattle.bodies.specs.Layout.{keyLength, mostBody, mostExtra, versionThree, layoutOf, versionOk}
+use Rattle.bodies.specs.Layout.{keyLength, mostBody, mostExtra, versionFour, layoutOf, versionOk}
 use Rattle.keys.specs.Keys.{active, mostKeys, partSize, keyIndex, keyInState, keyUnder, keyPartOk}
 use Rattle.bodies.specs.declared.layout.Layout.{Layout}
 
@@ -94,12 +94,12 @@ keyOf image i =
 unfoldable pub imageSize : List ℕ → ℕ
 imageSize image = partAt image + cond (layout image .keys) (partSize (keyCount image)) 0
 
--- the longest image of a layout, with as many entries and keys as there may be; version 3's is the longest of all
+-- the longest image of a layout, with as many entries and keys as there may be; version 4's is the longest of all
 abbrev pub longest : Layout → ℕ
 longest l = bodyPlace l mostEntries mostEntries + cond (l .keys) (partSize mostKeys) 0
 
 abbrev pub longestImage : ℕ
-longestImage = longest versionThree
+longestImage = longest versionFour
 
 -- version, count, and exactly the size that they ask for
 unfoldable pub laidOut : List ℕ → Bool

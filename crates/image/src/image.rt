@@ -25,8 +25,8 @@ ghost use Rattle.image.specs.Image.{versionOf, countOf, entryPlace, spiO
 ghost use Rattle.image.specs.Image.{layout, markAt, markIn, partAt, keyCount, keyWith, keyIn, keyIdIn, keyOf, imageSize, laidOut, spiBefore, entryOk};
 ghost use Rattle.image.specs.Image.{lastOk, keyedOk, keysOk, validImage};
 
-// The octets of the longest image that there may be, one of version 3 with all its entries and keys.
-pub const LONGEST_IMAGE: usize = 3079;
+// The octets of the longest image that there may be, one of version 4 with all its entries and keys.
+pub const LONGEST_IMAGE: usize = 3111;
 
 pub fn version_of(image: &[u8]) -> u8
     ensures { λ r. ⌜ r ≡ versionOf (now (image .entry)) ⌝ }

@@ -21,7 +21,7 @@ use Rattle.judging.specs.Answers.{Test, first}
 use Rattle.services.specs.SecurityHeader.{securityLength}
 use Rattle.protection.specs.Protection.{securedLength, numberIn, clearLength}
 use Rattle.judging.specs.Replies.{Seen, frontTests, sendingTests, securingTests, securing, receivingTests, checkingTests, checking}
-use Rattle.judging.specs.Said.{Said, kindSaid}
+use Rattle.judging.specs.Said.{Said, kindSaid, noDesk}
 use Rattle.judging.proofs.First.{none-left, passes, passed}
 use Rattle.protection.proofs.Wire as wire
 
@@ -31,24 +31,30 @@ heldBy see = heldIn (theOne (see .found))
 
 -- ---- the tests that come first in both
 
-pub record Fronts (see : Seen) (k : Kind) (frame : List ℕ) (secured : Bool) : Type 0 where
+pub record Fronts (see : Seen) (said : Said) (frame : List ℕ) (secured : Bool) : Type 0 where
   pub valid : see .valid ≡ true
   pub agree : see .agree ≡ true
-  pub rules : obeys k frame secured ≡ true
-  pub field : fieldOk k frame ≡ true
+  pub desk : noDesk (said .desk) ≡ false
+  pub rules : obeys (kindSaid said) frame secured ≡ true
+  pub field : fieldOk (kindSaid said) frame ≡ true
   pub found : isNone (see .found) ≡ false
 
-module _ (see : Seen) (k : Kind) (frame : List ℕ) (secured : Bool) (us : List Test) where
-  pub fronted : first (frontTests see k frame secured ++ us) ≡ 0 → Fronts see k frame secured × (first us ≡ 0)
+module _ (see : Seen) (said : Said) (frame : List ℕ) (secured : Bool) (us : List Test) where
+  abbrev k : Kind
+  k = kindSaid said
+
+  pub fronted : first (frontTests see said frame secured ++ us) ≡ 0 → Fronts see said frame secured × (first us ≡ 0)
   fronted e =
       let t1 = passed 1 (not (see .valid)) _ (omega arith) e in
       let t2 = passed 2 (not (see .agree)) _ (omega arith) (t1 .1) in
-      let t3 = passed 3 (not (obeys k frame secured)) _ (omega arith) (t2 .1) in
+      let t19 = passed 19 (noDesk (said .desk)) _ (omega arith) (t2 .1) in
+      let t3 = passed 3 (not (obeys k frame secured)) _ (omega arith) (t19 .1) in
       let t12 = passed 12 (not (fieldOk k frame)) _ (omega arith) (t3 .1) in
       let t4 = passed 4 (isNone (see .found)) _ (omega arith) (t12 .1) in (
         record {
           valid = not-false (see .valid) (t1 .0);
           agree = not-false (see .agree) (t2 .0);
+          desk = t19 .0;
           rules = not-false (obeys k frame secured) (t3 .0);
           field = not-false (fieldOk k frame) (t12 .0);
           found = t4 .0;
@@ -56,10 +62,11 @@ module _ (see : Seen) (k : Kind) (frame : List ℕ) (secured : Bool) (us : List 
         t4 .1,
       )
 
-  pub past-front : Fronts see k frame secured → first (frontTests see k frame secured ++ us) ≡ first us
+  pub past-front : Fronts see said frame secured → first (frontTests see said frame secured ++ us) ≡ first us
   past-front o =
       passes 1 (not (see .valid)) _ (ap not (o .valid))
       ∙ passes 2 (not (see .agree)) _ (ap not (o .agree))
+      ∙ passes 19 (noDesk (said .desk)) _ (o .desk)
       ∙ passes 3 (not (obeys k frame secured)) _ (ap not (o .rules))
       ∙ passes 12 (not (fieldOk k frame)) _ (ap not (o .field))
       ∙ passes 4 (isNone (see .found)) _ (o .found)
@@ -85,7 +92,7 @@ sends h last k frame room e =
     }
 
 pub record Secures (see : Seen) (said : Said) (frame : List ℕ) (room : ℕ) : Type 0 where
-  pub front : Fronts see (kindSaid said) frame false
+  pub front : Fronts see said frame false
   pub under : Sends (heldBy see) (theOne (see .found) .number) (kindSaid said) frame room
 
 pub secures : (see : Seen) (said : Said) (spi : ℕ) (frame : List ℕ) (room : ℕ) → securing see said spi frame room .answer ≡ 0
@@ -93,7 +100,7 @@ pub secures : (see : Seen) (said : Said) (spi : ℕ) (frame : List ℕ) (room : 
 unfolding securing securingTests
 secures see said spi frame room e =
     let k = kindSaid said in
-    let f = fronted see k frame false (sendingTests (heldBy see) (theOne (see .found) .number) k frame room) e in
+    let f = fronted see said frame false (sendingTests (heldBy see) (theOne (see .found) .number) k frame room) e in
     record { front = f .0; under = sends (heldBy see) (theOne (see .found) .number) k frame room (f .1) }
 
 -- ---- checking
@@ -130,7 +137,7 @@ module _ (h : Held) (last : ℕ) (right : Bool) (k : Kind) (frame : List ℕ) (r
       ∙ none-left
 
 pub record Checks (see : Seen) (right : Bool) (said : Said) (frame : List ℕ) (room : ℕ) : Type 0 where
-  pub front : Fronts see (kindSaid said) frame true
+  pub front : Fronts see said frame true
   pub under : Receives (heldBy see) (theOne (see .found) .number) right (kindSaid said) frame room
 
 module _ (see : Seen) (right : Bool) (said : Said) (frame : List ℕ) (room : ℕ) where
@@ -140,13 +147,13 @@ module _ (see : Seen) (right : Bool) (said : Said) (frame : List ℕ) (room : �
   pub checks : checking see right said frame room .answer ≡ 0 → Checks see right said frame room
   unfolding checking checkingTests
   checks e =
-      let f = fronted see (kindSaid said) frame true behind e in
+      let f = fronted see said frame true behind e in
       record { front = f .0; under = receives (heldBy see) (theOne (see .found) .number) right (kindSaid said) frame room (f .1) }
 
   pub checks-zero : Checks see right said frame room → checking see right said frame room .answer ≡ 0
   unfolding checking checkingTests
   checks-zero o =
-      past-front see (kindSaid said) frame true behind (o .front)
+      past-front see said frame true behind (o .front)
       ∙ past-receiving (heldBy see) (theOne (see .found) .number) right (kindSaid said) frame room (o .under)
 
 -- ---- the length of a result
@@ -156,7 +163,7 @@ pub securing-size : (see : Seen) (said : Said) (spi : ℕ) (frame : List ℕ) (r
 unfolding securing
 securing-size see said spi frame room z =
     let s = secures see said spi frame room z in
-    wire.length-secured (heldBy see) (kindSaid said) (lawful (said .checkField) (said .kind)) spi _ frame (s .front .rules) (s .under .fits)
+    wire.length-secured (heldBy see) (kindSaid said) (lawful (said .field) (said .kind)) spi _ frame (s .front .rules) (s .under .fits)
 
 pub checking-size : (see : Seen) (right : Bool) (said : Said) (frame : List ℕ) (room : ℕ) → let q = checking see right said frame room in
     length (q .result) ≡ q .size

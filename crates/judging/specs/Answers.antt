@@ -1,4 +1,4 @@
--- Document 01, 'What comes back', and document 02, requests 4, 5 and 9: the answers and their numbers, and the first of several refusals that
+-- Document 01, 'What comes back', and document 02, requests 4, 5, 9 and 10: the answers and their numbers, and the first of several refusals that
 -- applies.
 -- Assumes nothing.
 use Prim.Native.Nat.{ℕ}
@@ -40,6 +40,7 @@ reported answer.WrongState = refusal 15
 reported answer.BadValue = refusal 16
 reported answer.UnknownKey = refusal 17
 reported answer.WrongKeyState = refusal 18
+reported answer.WrongDesk = refusal 19
 
 -- ---- the first that applies is given and no other; where none applies, the answer is 0
 

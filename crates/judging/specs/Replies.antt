@@ -18,7 +18,7 @@ use Rattle.association.specs.declared.search.Wanted.{Wanted}
 use Rattle.judging.specs.Answers.{Test, first}
 use Rattle.services.specs.SecurityHeader.{securityLength}
 use Rattle.protection.specs.Protection.{securedLength, securedFrame, numberIn, clearLength, clearData}
-use Rattle.judging.specs.Said.{Said, kindSaid}
+use Rattle.judging.specs.Said.{Said, kindSaid, noDesk}
 
 -- what a call sees of an image and its numbers: whether every rule holds, whether they agree, and the association that matches
 pub record Seen : Type 0 where
@@ -60,12 +60,13 @@ raising image e d =
 
 -- ---- the tests that come first in both
 
-abbrev pub frontTests : Seen → Kind → List ℕ → Bool → List Test
-frontTests see k frame secured =
+abbrev pub frontTests : Seen → Said → List ℕ → Bool → List Test
+frontTests see said frame secured =
     (1, not (see .valid))
     ∷ (2, not (see .agree))
-    ∷ (3, not (obeys k frame secured))
-    ∷ (12, not (fieldOk k frame))
+    ∷ (19, noDesk (said .desk))
+    ∷ (3, not (obeys (kindSaid said) frame secured))
+    ∷ (12, not (fieldOk (kindSaid said) frame))
     ∷ (4, isNone (see .found))
     ∷ []
 
@@ -82,7 +83,7 @@ sendingTests h last k frame room =
 unfoldable pub securingTests : Seen → Said → List ℕ → ℕ → List Test
 securingTests see said frame room =
     let a = theOne (see .found) in
-    frontTests see (kindSaid said) frame false ++ sendingTests (heldIn a) (a .number) (kindSaid said) frame room
+    frontTests see said frame false ++ sendingTests (heldIn a) (a .number) (kindSaid said) frame room
 
 -- sending uses last + 1
 unfoldable pub securing : Seen → Said → ℕ → List ℕ → ℕ → Decision
@@ -111,7 +112,7 @@ receivingTests h last right k frame room =
 unfoldable pub checkingTests : Seen → Bool → Said → List ℕ → ℕ → List Test
 checkingTests see right said frame room =
     let a = theOne (see .found) in
-    frontTests see (kindSaid said) frame true ++ receivingTests (heldIn a) (a .number) right (kindSaid said) frame room
+    frontTests see said frame true ++ receivingTests (heldIn a) (a .number) right (kindSaid said) frame room
 
 unfoldable pub checking : Seen → Bool → Said → List ℕ → ℕ → Decision
 checking see right said frame room =

@@ -32,14 +32,14 @@ pub record Refuses (a : Answer) (n : ℕ) : Type 0 where
 -- ---- past the tests that come first: the frame's framing, and the entry that it matches
 
 pub record Admits (image last : List ℕ) (w : Wanted) (said : Said) (secured : Bool) (frame : List ℕ) (framing : Framing) (e : ℕ) : Type 0 where
-  pub answer : first (frontTests (seen image last w) (kindSaid said) frame secured) ≡ 0
+  pub answer : first (frontTests (seen image last w) said frame secured) ≡ 0
   pub kinds : framed framing ≡ kindSaid said
   pub entry : entryFor image w ≡ found.At e
 
 abbrev pub Admitted : Admission → List ℕ → List ℕ → Wanted → Said → Bool → List ℕ → Type 0
 Admitted (admission.To framing e) image last w said secured frame = Admits image last w said secured frame framing e
 Admitted (admission.Refused a) image last w said secured frame =
-    Refuses a (first (frontTests (seen image last w) (kindSaid said) frame secured))
+    Refuses a (first (frontTests (seen image last w) said frame secured))
 
 -- ---- a verdict: the reply but for its result
 

@@ -1,4 +1,4 @@
--- Document 01, 'What comes back', answer 4: what a frame asks of an entry, when it is to be sent and when it came in.
+-- Document 01, 'What comes back', answer 4: what a call and its frame ask of an entry, when the frame is to be sent and when it came in.
 -- Assumes nothing.
 use Prim.Native.Nat.{ℕ}
 use mathlib.Core.List.{List}
@@ -15,6 +15,7 @@ receiving = 2
 unfoldable pub wanted : ℕ → ℕ → Said → List ℕ → Wanted
 wanted spi direction said frame =
     record {
+      desk = said .desk;
       spi = spi;
       direction = direction;
       kind = said .kind;

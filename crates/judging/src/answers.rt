@@ -1,4 +1,4 @@
-// Document 01, 'What comes back', and document 02, requests 4, 5 and 9: one variant for each number of the papers. Done reports the length of
+// Document 01, 'What comes back', and document 02, requests 4, 5, 9 and 10: one variant for each number of the papers. Done reports the length of
 // the result and the count of stores.
 pub enum Answer {
     Done(usize, u32),
@@ -19,4 +19,5 @@ pub enum Answer {
     BadValue,
     UnknownKey,
     WrongKeyState,
+    WrongDesk,
 }

@@ -2,9 +2,12 @@
 // verdict grants what is stored, handed out and remembered. The tests stand here in the definitions, with what follows from them, and the
 // answers and verdicts in the code; crates `admission` and `verdicts` judge, and crate `link` carries out.
 mod answers;
+mod said;
 mod verdict;
 
 pub use answers::Answer;
+pub use said::Said;
+pub use said::no_desk;
 pub use verdict::Admission;
 pub use verdict::Grant;
 pub use verdict::Verdict;

@@ -34,5 +34,6 @@ pub fn pack(answer: Answer) -> u64
         Answer::BadValue => word(16, 0, 0),
         Answer::UnknownKey => word(17, 0, 0),
         Answer::WrongKeyState => word(18, 0, 0),
+        Answer::WrongDesk => word(19, 0, 0),
     }
 }

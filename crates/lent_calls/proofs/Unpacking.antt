@@ -47,14 +47,14 @@ check-unpacked image numbers said frame output =
     unpacked-counted image numbers output (checked image numbers said frame output) (checked-small image numbers said frame output)
 
 -- of octets, as all that C lends are
-pub command-unpacked : (image numbers command output : List ℕ) → Octets image → Octets command
-    → Unpacked (commandCall image numbers command output)
+pub command-unpacked : (image numbers : List ℕ) (desk : ℕ) (command output : List ℕ) → Octets image → Octets command
+    → Unpacked (commandCall image numbers desk command output)
 unfolding commandCall
-command-unpacked image numbers command output octets spoken = by-count (eqb (length numbers) 32) refl
+command-unpacked image numbers desk command output octets spoken = by-count (eqb (length numbers) 32) refl
   where
     by-count : (t : Bool) → eqb (length numbers) 32 ≡ t
-        → Unpacked (cond t (commanded image numbers command output) (refused (cond (validImage image) 2 1) image numbers output))
+        → Unpacked (cond t (commanded image numbers desk command output) (refused (cond (validImage image) 2 1) image numbers output))
     by-count true e =
-        unpacked (commanded image numbers command output)
-        (commanded-small image numbers command output octets spoken (eqb-true (length numbers) 32 e))
+        unpacked (commanded image numbers desk command output)
+        (commanded-small image numbers desk command output octets spoken (eqb-true (length numbers) 32 e))
     by-count false e = unpacked _ (small-refused (cond (validImage image) 2 1) image numbers output)

@@ -10,7 +10,7 @@ use lib.ListN.{length, take}
 use Rattle.image.specs.Image.{validImage}
 use Rattle.link.specs.Calls.{Left, refused, cut, loaded, secured, checked}
 use Rattle.commands.specs.Commanding.{madeBy, commandReply, commanded}
-use Rattle.judging.specs.Said.{Said, saying}
+use Rattle.judging.specs.Said.{Said}
 use Rattle.lent.specs.Word.{word}
 
 -- ---- the returned number
@@ -24,10 +24,10 @@ pub record Unpacked (x : Left) : Type 0 where
   pub stores : packed x / 2 ^ 32 % 2 ^ 8 ≡ x .stores
   pub length : packed x % 2 ^ 32 ≡ x .length
 
--- ---- what C says of a frame: its kind, and by any number but 0 that a check field ends it
+-- ---- what C says: its desk, the frame's kind, and by any number but 0 that a check field ends the frame
 
-abbrev pub told : ℕ → ℕ → Said
-told kind field = saying kind (not (eqb field 0))
+abbrev pub told : ℕ → ℕ → ℕ → Said
+told desk kind field = record { desk = desk; kind = kind; field = not (eqb field 0) }
 
 -- ---- the calls
 
@@ -44,13 +44,13 @@ secureCall image numbers said spi frame output = counted image numbers output (s
 unfoldable pub checkCall : List ℕ → List ℕ → Said → List ℕ → List ℕ → Left
 checkCall image numbers said frame output = counted image numbers output (checked image numbers said frame output)
 
-unfoldable pub commandCall : List ℕ → List ℕ → List ℕ → List ℕ → Left
-commandCall image numbers command output = counted image numbers output (commanded image numbers command output)
+unfoldable pub commandCall : List ℕ → List ℕ → ℕ → List ℕ → List ℕ → Left
+commandCall image numbers desk command output = counted image numbers output (commanded image numbers desk command output)
 
 -- a command cut after j stores: the number of those that were made, and the image
-pub record CutShort (image numbers command : List ℕ) (room j : ℕ) (r : ℕ) (i : List ℕ) : Type 0 where
+pub record CutShort (image numbers : List ℕ) (desk : ℕ) (command : List ℕ) (room j : ℕ) (r : ℕ) (i : List ℕ) : Type 0 where
   pub counted : length numbers ≡ 32
-      → (r ≡ length (take j (madeBy (commandReply image numbers command room)))) × (i ≡ cut (commandReply image numbers command room) image j)
+      → (r ≡ length (take j (madeBy (commandReply image numbers desk command room)))) × (i ≡ cut (commandReply image numbers desk command room) image j)
   pub miscounted : (length numbers ≡ 32 → ⊥) → (r ≡ 0) × (i ≡ image)
 
 -- ---- what the caller sees of a call: the number, and the lent lists as it returns

@@ -1,5 +1,6 @@
 // The calls over lists that C lends: with 32 numbers the module's, by the engine that the tables are for; another count agrees with no image, and
 // is refused.
+use judging::Said;
 use lent::hand_back;
 use lent::numbers_in;
 use lent::pack;
@@ -24,6 +25,7 @@ pub fn secure_lent(
     tables: &[u32],
     image: &mut [u8],
     numbers: &mut [u32],
+    desk: u8,
     kind: u8,
     field: u8,
     spi: u16,
@@ -31,7 +33,7 @@ pub fn secure_lent(
     output: &mut [u8],
 ) -> u64
     requires { ⌜ Lent (now tables) ⌝ }
-    ensures { λ r. ⌜ Returned (secureCall (now (image .entry)) (now (numbers .entry)) (told kind field) spi (now (frame .entry)) (now (output .entry))) r (now (image .exit)) (now (numbers .exit)) (now (output .exit)) ⌝ }
+    ensures { λ r. ⌜ Returned (secureCall (now (image .entry)) (now (numbers .entry)) (told desk kind field) spi (now (frame .entry)) (now (output .entry))) r (now (image .exit)) (now (numbers .exit)) (now (output .exit)) ⌝ }
 {
     if numbers.len() != 32 {
         return refuse_count(image);
@@ -40,8 +42,11 @@ pub fn secure_lent(
         tables,
         image,
         numbers_in(numbers),
-        kind,
-        field != 0,
+        Said {
+            desk,
+            kind,
+            field: field != 0,
+        },
         spi,
         frame,
         output,
@@ -55,13 +60,14 @@ pub fn check_lent(
     tables: &[u32],
     image: &mut [u8],
     numbers: &mut [u32],
+    desk: u8,
     kind: u8,
     field: u8,
     frame: &[u8],
     output: &mut [u8],
 ) -> u64
     requires { ⌜ Lent (now tables) ⌝ }
-    ensures { λ r. ⌜ Returned (checkCall (now (image .entry)) (now (numbers .entry)) (told kind field) (now (frame .entry)) (now (output .entry))) r (now (image .exit)) (now (numbers .exit)) (now (output .exit)) ⌝ }
+    ensures { λ r. ⌜ Returned (checkCall (now (image .entry)) (now (numbers .entry)) (told desk kind field) (now (frame .entry)) (now (output .entry))) r (now (image .exit)) (now (numbers .exit)) (now (output .exit)) ⌝ }
 {
     if numbers.len() != 32 {
         return refuse_count(image);
@@ -70,8 +76,11 @@ pub fn check_lent(
         tables,
         image,
         numbers_in(numbers),
-        kind,
-        field != 0,
+        Said {
+            desk,
+            kind,
+            field: field != 0,
+        },
         frame,
         output,
     );
@@ -80,13 +89,19 @@ pub fn check_lent(
     pack(answer)
 }
 
-pub fn command_lent(image: &mut [u8], numbers: &mut [u32], command: &[u8], output: &mut [u8]) -> u64
-    ensures { λ r. ⌜ Returned (commandCall (now (image .entry)) (now (numbers .entry)) (now (command .entry)) (now (output .entry))) r (now (image .exit)) (now (numbers .exit)) (now (output .exit)) ⌝ }
+pub fn command_lent(
+    image: &mut [u8],
+    numbers: &mut [u32],
+    desk: u8,
+    command: &[u8],
+    output: &mut [u8],
+) -> u64
+    ensures { λ r. ⌜ Returned (commandCall (now (image .entry)) (now (numbers .entry)) desk (now (command .entry)) (now (output .entry))) r (now (image .exit)) (now (numbers .exit)) (now (output .exit)) ⌝ }
 {
     if numbers.len() != 32 {
         return refuse_count(image);
     }
-    let outcome = commands::command(image, numbers_in(numbers), command, output);
+    let outcome = commands::command(image, numbers_in(numbers), desk, command, output);
     let answer = outcome.answer;
     hand_back(outcome.numbers, numbers);
     pack(answer)
@@ -95,14 +110,15 @@ pub fn command_lent(image: &mut [u8], numbers: &mut [u32], command: &[u8], outpu
 pub fn command_cut_lent(
     image: &mut [u8],
     numbers: &[u32],
+    desk: u8,
     command: &[u8],
     room: usize,
     stores: u32,
 ) -> u32
-    ensures { λ r. ⌜ CutShort (now (image .entry)) (now (numbers .entry)) (now (command .entry)) room stores r (now (image .exit)) ⌝ }
+    ensures { λ r. ⌜ CutShort (now (image .entry)) (now (numbers .entry)) desk (now (command .entry)) room stores r (now (image .exit)) ⌝ }
 {
     if numbers.len() != 32 {
         return 0;
     }
-    commands::command_cut(image, numbers_in(numbers), command, room, stores)
+    commands::command_cut(image, numbers_in(numbers), desk, command, room, stores)
 }

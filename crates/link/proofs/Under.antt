@@ -56,7 +56,7 @@ module _ (image last : List ℕ) (said : Said) (spi : ℕ) (frame : List ℕ) (r
   abbrev sends : Seen
   sends = seen image last (securingWants said spi frame)
 
-  pub securing-refused : (a : Answer) → Refuses a (first (frontTests sends (kindSaid said) frame false))
+  pub securing-refused : (a : Answer) → Refuses a (first (frontTests sends said frame false))
       → Refuses a (securingReply image last said spi frame room .answer)
   unfolding securingReply securing securingTests
   securing-refused a r = rw (stops _ (sendingTests (heldBy sends) (theOne (sends .found) .number) (kindSaid said) frame room) (r .some)) r
@@ -81,10 +81,10 @@ module _ (image last : List ℕ) (said : Said) (spi : ℕ) (frame : List ℕ) (r
   securing-under framing e r =
       let f = finds-at image last (securingWants said spi frame) e (r .entry) in
       let see : theOne (sends .found) ≡ associationOf image last e = saw-one image last (securingWants said spi frame) e f in
-      let front = fronted sends (kindSaid said) frame false [] (r .answer) .0 in
+      let front = fronted sends said frame false [] (r .answer) .0 in
       ap₂ (λ (a : Association) (x : Kind). sent a e x (decided a x)) (sym see) (r .kinds)
       ∙ ap (λ (i : Found). sent (theOne (sends .found)) (indexOf i) (kindSaid said) (decided (theOne (sends .found)) (kindSaid said))) (sym (r .entry))
-      ∙ ap (sent (theOne (sends .found)) (securingEntry image said spi frame) (kindSaid said)) (sym (past-front sends (kindSaid said) frame false _ front))
+      ∙ ap (sent (theOne (sends .found)) (securingEntry image said spi frame) (kindSaid said)) (sym (past-front sends said frame false _ front))
 
 module _ (image last : List ℕ) (said : Said) (frame : List ℕ) (room : ℕ) where
   abbrev checks : Seen
@@ -93,7 +93,7 @@ module _ (image last : List ℕ) (said : Said) (frame : List ℕ) (room : ℕ) w
   abbrev right : Bool
   right = comparison image last said frame
 
-  pub checking-refused : (a : Answer) → Refuses a (first (frontTests checks (kindSaid said) frame true))
+  pub checking-refused : (a : Answer) → Refuses a (first (frontTests checks said frame true))
       → Refuses a (checkingReply right image last said frame room .answer)
   unfolding checkingReply checking checkingTests
   checking-refused a r = rw (stops _ (receivingTests (heldBy checks) (theOne (checks .found) .number) right (kindSaid said) frame room) (r .some)) r
@@ -117,7 +117,7 @@ module _ (image last : List ℕ) (said : Said) (frame : List ℕ) (room : ℕ) w
   checking-under framing e r =
       let f = finds-at image last (checkingWants said frame) e (r .entry) in
       let see : theOne (checks .found) ≡ associationOf image last e = saw-one image last (checkingWants said frame) e f in
-      let front = fronted checks (kindSaid said) frame true [] (r .answer) .0 in
+      let front = fronted checks said frame true [] (r .answer) .0 in
       ap₂ (λ (a : Association) (x : Kind). received a e x (judged a x)) (sym see) (r .kinds)
       ∙ ap (λ (i : Found). received (theOne (checks .found)) (indexOf i) (kindSaid said) (judged (theOne (checks .found)) (kindSaid said))) (sym (r .entry))
-      ∙ ap (received (theOne (checks .found)) (checkingEntry image said frame) (kindSaid said)) (sym (past-front checks (kindSaid said) frame true _ front))
+      ∙ ap (received (theOne (checks .found)) (checkingEntry image said frame) (kindSaid said)) (sym (past-front checks said frame true _ front))

@@ -25,15 +25,16 @@ pub extern "C" fn xistalvo_load(image: &[u8], numbers: &mut [u32]) -> u64
 pub extern "C" fn xistalvo_secure(
     image: &mut [u8],
     numbers: &mut [u32],
+    desk: u8,
     kind: u8,
     field: u8,
     spi: u16,
     frame: &[u8],
     output: &mut [u8],
 ) -> u64
-    ensures { λ r. ⌜ Returned (secureCall (now (image .entry)) (now (numbers .entry)) (told kind field) spi (now (frame .entry)) (now (output .entry))) r (now (image .exit)) (now (numbers .exit)) (now (output .exit)) ⌝ }
+    ensures { λ r. ⌜ Returned (secureCall (now (image .entry)) (now (numbers .entry)) (told desk kind field) spi (now (frame .entry)) (now (output .entry))) r (now (image .exit)) (now (numbers .exit)) (now (output .exit)) ⌝ }
 {
-    secure_lent(&[], image, numbers, kind, field, spi, frame, output)
+    secure_lent(&[], image, numbers, desk, kind, field, spi, frame, output)
 }
 
 // The same at a ground station, by tables of 4,096 octets, which lie on this call's stack and in no other's.
@@ -41,16 +42,27 @@ pub extern "C" fn xistalvo_secure(
 pub extern "C" fn xistalvo_ground_secure(
     image: &mut [u8],
     numbers: &mut [u32],
+    desk: u8,
     kind: u8,
     field: u8,
     spi: u16,
     frame: &[u8],
     output: &mut [u8],
 ) -> u64
-    ensures { λ r. ⌜ Returned (secureCall (now (image .entry)) (now (numbers .entry)) (told kind field) spi (now (frame .entry)) (now (output .entry))) r (now (image .exit)) (now (numbers .exit)) (now (output .exit)) ⌝ }
+    ensures { λ r. ⌜ Returned (secureCall (now (image .entry)) (now (numbers .entry)) (told desk kind field) spi (now (frame .entry)) (now (output .entry))) r (now (image .exit)) (now (numbers .exit)) (now (output .exit)) ⌝ }
 {
     let tables = word_tables();
-    secure_lent(&tables, image, numbers, kind, field, spi, frame, output)
+    secure_lent(
+        &tables,
+        image,
+        numbers,
+        desk,
+        kind,
+        field,
+        spi,
+        frame,
+        output,
+    )
 }
 
 // The clear data of a secured frame, to the front of the output.
@@ -58,14 +70,15 @@ pub extern "C" fn xistalvo_ground_secure(
 pub extern "C" fn xistalvo_check(
     image: &mut [u8],
     numbers: &mut [u32],
+    desk: u8,
     kind: u8,
     field: u8,
     frame: &[u8],
     output: &mut [u8],
 ) -> u64
-    ensures { λ r. ⌜ Returned (checkCall (now (image .entry)) (now (numbers .entry)) (told kind field) (now (frame .entry)) (now (output .entry))) r (now (image .exit)) (now (numbers .exit)) (now (output .exit)) ⌝ }
+    ensures { λ r. ⌜ Returned (checkCall (now (image .entry)) (now (numbers .entry)) (told desk kind field) (now (frame .entry)) (now (output .entry))) r (now (image .exit)) (now (numbers .exit)) (now (output .exit)) ⌝ }
 {
-    check_lent(&[], image, numbers, kind, field, frame, output)
+    check_lent(&[], image, numbers, desk, kind, field, frame, output)
 }
 
 // The same at a ground station.
@@ -73,15 +86,16 @@ pub extern "C" fn xistalvo_check(
 pub extern "C" fn xistalvo_ground_check(
     image: &mut [u8],
     numbers: &mut [u32],
+    desk: u8,
     kind: u8,
     field: u8,
     frame: &[u8],
     output: &mut [u8],
 ) -> u64
-    ensures { λ r. ⌜ Returned (checkCall (now (image .entry)) (now (numbers .entry)) (told kind field) (now (frame .entry)) (now (output .entry))) r (now (image .exit)) (now (numbers .exit)) (now (output .exit)) ⌝ }
+    ensures { λ r. ⌜ Returned (checkCall (now (image .entry)) (now (numbers .entry)) (told desk kind field) (now (frame .entry)) (now (output .entry))) r (now (image .exit)) (now (numbers .exit)) (now (output .exit)) ⌝ }
 {
     let tables = word_tables();
-    check_lent(&tables, image, numbers, kind, field, frame, output)
+    check_lent(&tables, image, numbers, desk, kind, field, frame, output)
 }
 
 // A management command, and its reply to the front of the output.
@@ -89,12 +103,13 @@ pub extern "C" fn xistalvo_ground_check(
 pub extern "C" fn xistalvo_command(
     image: &mut [u8],
     numbers: &mut [u32],
+    desk: u8,
     command: &[u8],
     output: &mut [u8],
 ) -> u64
-    ensures { λ r. ⌜ Returned (commandCall (now (image .entry)) (now (numbers .entry)) (now (command .entry)) (now (output .entry))) r (now (image .exit)) (now (numbers .exit)) (now (output .exit)) ⌝ }
+    ensures { λ r. ⌜ Returned (commandCall (now (image .entry)) (now (numbers .entry)) desk (now (command .entry)) (now (output .entry))) r (now (image .exit)) (now (numbers .exit)) (now (output .exit)) ⌝ }
 {
-    command_lent(image, numbers, command, output)
+    command_lent(image, numbers, desk, command, output)
 }
 
 // The cut of a command: the first `stores` of its octet stores, where its reply has that much room; how many were made. Numbers that are not
@@ -103,13 +118,14 @@ pub extern "C" fn xistalvo_command(
 pub extern "C" fn xistalvo_command_cut(
     image: &mut [u8],
     numbers: &[u32],
+    desk: u8,
     command: &[u8],
     room: usize,
     stores: u32,
 ) -> u32
-    ensures { λ r. ⌜ CutShort (now (image .entry)) (now (numbers .entry)) (now (command .entry)) room stores r (now (image .exit)) ⌝ }
+    ensures { λ r. ⌜ CutShort (now (image .entry)) (now (numbers .entry)) desk (now (command .entry)) room stores r (now (image .exit)) ⌝ }
 {
-    command_cut_lent(image, numbers, command, room, stores)
+    command_cut_lent(image, numbers, desk, command, room, stores)
 }
 
 // The cut: the first `stores` of the octet stores that raise the mark of an entry to that of a number; how many were made.

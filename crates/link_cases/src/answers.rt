@@ -25,6 +25,7 @@ fn number_of(answer: Answer) -> u64 {
         Answer::BadValue => 16,
         Answer::UnknownKey => 17,
         Answer::WrongKeyState => 18,
+        Answer::WrongDesk => 19,
     }
 }
 

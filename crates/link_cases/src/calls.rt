@@ -5,6 +5,7 @@ use crate::fields::four;
 use crate::fields::octet;
 use crate::fields::two;
 use commands::command;
+use judging::Said;
 use lines::field;
 use lines::print_number;
 use lines::read_octets;
@@ -31,8 +32,8 @@ pub(crate) fn run_raise(line: &[u8], image: &mut [u8], numbers: Numbers) -> Numb
     numbers
 }
 
-// `secure KIND FIELD SPI ROOM FRAME`; `check KIND FIELD ROOM FRAME`, where the SPI stands in the frame; or `manage ROOM COMMAND`. FIELD is 00
-// for no check field.
+// `secure DESK KIND FIELD SPI ROOM FRAME`; `check DESK KIND FIELD ROOM FRAME`, where the SPI stands in the frame; or `manage DESK ROOM COMMAND`.
+// FIELD is 00 for no check field.
 fn outcome(
     line: &[u8],
     image: &mut [u8],
@@ -40,15 +41,19 @@ fn outcome(
     frame: &[u8],
     output: &mut [u8],
 ) -> Outcome {
+    let desk = octet(line, 1);
     if octet_at(line, 0) == b'm' {
-        return command(image, numbers, frame, output);
+        return command(image, numbers, desk, frame, output);
     }
-    let kind = octet(line, 1);
-    let field = octet(line, 2) != 0;
+    let said = Said {
+        desk,
+        kind: octet(line, 2),
+        field: octet(line, 3) != 0,
+    };
     if octet_at(line, 0) == b's' {
-        return securing::secure(image, numbers, kind, field, two(line, 3), frame, output);
+        return securing::secure(image, numbers, said, two(line, 4), frame, output);
     }
-    checking::check(image, numbers, kind, field, frame, output)
+    checking::check(image, numbers, said, frame, output)
 }
 
 // Such a line, by the numbers of its fields ROOM, which is the length of the output, at most 4096, and FRAME, or COMMAND.

@@ -1,6 +1,6 @@
 // Runs calls of the module, a line each, and writes for each what came back and what it changed. tools/link_cases.py makes the calls,
-// document 01's cases A to O, its 'Slips that look right' and document 02's management commands among them, and the expected answers, from
-// the papers alone.
+// document 01's cases A to O, its 'Slips that look right' and document 02's management commands and desks among them, and the expected answers,
+// from the papers alone.
 mod answers;
 mod calls;
 mod changes;

@@ -45,9 +45,9 @@ fn call(line: &[u8], image: &mut [u8], numbers: Numbers) -> Numbers {
     match octet_at(line, 0) {
         b'l' => run_load(image, numbers),
         b'r' => run_raise(line, image, numbers),
-        b's' => run_frame(line, 4, 5, image, numbers),
-        b'c' => run_frame(line, 3, 4, image, numbers),
-        b'm' => run_frame(line, 1, 2, image, numbers),
+        b's' => run_frame(line, 5, 6, image, numbers),
+        b'c' => run_frame(line, 4, 5, image, numbers),
+        b'm' => run_frame(line, 2, 3, image, numbers),
         _ => numbers,
     }
 }

@@ -18,14 +18,14 @@ fn print_listing(image: &[u8]) {
 
 // Room for one key more than the longest image has.
 fn list(line: &[u8]) {
-    let mut image = [0u8; 3114];
+    let mut image = [0u8; 3146];
     let count = read_octets(line, &mut image);
     print_listing(&image[..count]);
 }
 
 // Whether there was a line.
 fn run_line() -> bool {
-    let mut line = [0u8; 6229];
+    let mut line = [0u8; 6293];
     let count = read_line(STDIN_FILENO, &mut line);
     if count == 0 {
         return false;

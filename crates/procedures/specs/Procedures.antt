@@ -296,6 +296,10 @@ procedures =
     ∷ procedure.Inventory
     ∷ []
 
+-- request 10: the key commands, which the key office alone gives. The tag tells them, whatever their length
+abbrev pub keyCommand : ℕ → Bool
+keyCommand tag = eqb tag (activation .tag) || eqb tag (deactivation .tag) || eqb tag (keyInventory .tag)
+
 -- the one of a list that has a tag
 unfoldable pub withTag : ℕ → List code.Procedure → Called
 withTag tag [] = calls.Nothing

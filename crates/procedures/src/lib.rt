@@ -10,5 +10,6 @@ pub use named::key_ready;
 pub use procedure::Called;
 pub use procedure::Procedure;
 pub use tags::called_by;
+pub use tags::key_command;
 pub use values::allowed;
 pub use values::new_number;

@@ -34,7 +34,7 @@ use Rattle.link.specs.Calls.{comparison, checkingReply, checkedAs, checked}
 use Rattle.services.specs.SecurityHeader.{securityLength}
 use Rattle.protection.specs.Protection.{securedLength, numberIn, textIn, macRight, clearLength}
 use Rattle.judging.specs.Replies.{seen, securingTests, securing, checkingTests, checking}
-use Rattle.judging.specs.Said.{Said, kindSaid}
+use Rattle.judging.specs.Said.{Said, kindSaid, noDesk}
 use Rattle.judging.specs.declared.answers.Answer.{Answer}
 use Rattle.judging.specs.declared.answers.Answer.the-variants as answer
 use Rattle.link.proofs.Leaving.{left-answer}
@@ -211,18 +211,20 @@ module _ (image numbers : List ℕ) (octets : Octets image) (direction : ℕ) (s
         ≡ same (rightMac (serviceAt image e) said (maskAt image e) (keyOctetsAt image e) frame) (macOn said frame)
     mac = mac-right h said frame (ap length held-mask ∙ length-part _ 6 image) ∙ rw (held-service, held-mask, held-key)
 
-  -- the first five rules, which sending and checking share
+  -- the first six rules, which sending and checking share
   front : (secured : Bool) (behind : Rules) (tests : List Test)
       → (ImageRules image → isNone (matching image numbers w) ≡ false → Numbered behind (first tests))
       → Numbered
       (rule answer.BadImage (ImageRules image)
       (rule answer.BadMarks (Agreeing image numbers)
+      (rule answer.WrongDesk (said .desk ≤ 2)
       (rule answer.BadFrame (FrameRules said frame (least secured))
       (rule answer.WrongCheckField (RightField said frame)
-      (rule answer.NoEntry ((d : ℕ) × Serves image direction said spi frame d) behind)))))
+      (rule answer.NoEntry ((d : ℕ) × Serves image direction said spi frame d) behind))))))
       (first
       ((1, not (validImage image))
       ∷ (2, not (agrees image numbers))
+      ∷ (19, noDesk (said .desk))
       ∷ (3, not (obeys (kindSaid said) frame secured))
       ∷ (12, not (fieldOk (kindSaid said) frame))
       ∷ (4, isNone (matching image numbers w))
@@ -236,6 +238,9 @@ module _ (image numbers : List ℕ) (octets : Octets image) (direction : ℕ) (s
       next-rule answer.BadMarks (not (agrees image numbers)) _ _ _
       (λ t a. differ (agrees image numbers) (agreement-tested image numbers octets a) (not-true (agrees image numbers) t))
       (λ t. agreement image numbers octets (not-false (agrees image numbers) t))
+      (next-rule answer.WrongDesk (noDesk (said .desk)) _ _ _
+      (λ t k. omega (arith, ltb-true 2 (said .desk) t))
+      (λ t. ltb-false 2 (said .desk) t)
       (next-rule answer.BadFrame (not (obeys (kindSaid said) frame secured)) _ _ _
       (λ t k. differ _ (frame-tested said frame secured k) (not-true (obeys (kindSaid said) frame secured) t))
       (λ t. frame-kept said frame secured (not-false (obeys (kindSaid said) frame secured) t))
@@ -243,7 +248,7 @@ module _ (image numbers : List ℕ) (octets : Octets image) (direction : ℕ) (s
       (λ t f. differ _ (field-tested said frame f) (not-true (fieldOk (kindSaid said) frame) t))
       (λ t. field-kept said frame (not-false (fieldOk (kindSaid said) frame) t))
       (step answer.NoEntry (isNone (matching image numbers w)) tests ((d : ℕ) × Serves image direction said spi frame d) behind nobody
-      (λ t4. ((e, serves rules t4), then rules t4)))))
+      (λ t4. ((e, serves rules t4), then rules t4))))))
       in
       (rules, rest))
 
@@ -356,6 +361,7 @@ answering =
             sixteen = refl;
             seventeen = refl;
             eighteen = refl;
+            nineteen = refl;
           };
       loading = λ image numbers octets.
           exactly (loadRules image) (loaded image numbers)

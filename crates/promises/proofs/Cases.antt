@@ -38,18 +38,18 @@ module _ (n : ℕ) where
   abbrev reply : Reply
   reply = securingReply imageB (oneNumber 63) (fielded 1) 9 (fieldedTc n) (length room)
 
-  decided : Fronts sees k (fieldedTc n) false
+  decided : Fronts sees (fielded 1) (fieldedTc n) false
       → reply .answer ≡ first (sendingTests (heldBy sees) (theOne (sees .found) .number) k (fieldedTc n) (length room))
   unfolding securingReply securing securingTests
-  decided f = past-front sees k (fieldedTc n) false _ f
+  decided f = past-front sees (fielded 1) (fieldedTc n) false _ f
 
-fronts-fit : Fronts (sees 1002) k (fieldedTc 1002) false
+fronts-fit : Fronts (sees 1002) (fielded 1) (fieldedTc 1002) false
 unfolding everything fieldedTc
-fronts-fit = record { valid = refl; agree = refl; rules = refl; field = right 1002; found = refl }
+fronts-fit = record { valid = refl; agree = refl; desk = refl; rules = refl; field = right 1002; found = refl }
 
-fronts-exceed : Fronts (sees 1003) k (fieldedTc 1003) false
+fronts-exceed : Fronts (sees 1003) (fielded 1) (fieldedTc 1003) false
 unfolding everything fieldedTc
-fronts-exceed = record { valid = refl; agree = refl; rules = refl; field = right 1003; found = refl }
+fronts-exceed = record { valid = refl; agree = refl; desk = refl; rules = refl; field = right 1003; found = refl }
 
 passes-all : first (sendingTests (heldBy (sees 1002)) (theOne (sees 1002 .found) .number) k (fieldedTc 1002) (length room)) ≡ 0
 unfolding everything fieldedTc

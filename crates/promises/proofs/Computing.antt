@@ -18,7 +18,7 @@ use Rattle.bodies.specs.Layout.{layoutOf}
 use Rattle.keys.specs.Keys.{keyFrom, keyIndex, keyInState, keyUnder, keyOk, keyPartOk}
 use Rattle.image.specs.Image.{bodyAt, bodyOf, markAt, markIn, partAt, keyCount, keyOf, imageSize, laidOut, entryOk, keysOk, validImage}
 use Rattle.numbers.specs.Numbers.{loadedNumbers, agrees}
-use Rattle.association.specs.Search.{bodyServes, matches, firstFrom, entryFor}
+use Rattle.association.specs.Search.{bodyServes, hasSpi, matches, firstFrom, entryFor}
 use Rattle.marks.specs.Stores.{steps, stored}
 use Rattle.numbers.specs.Stores.{planFor, afterStores}
 use Rattle.judging.specs.Answers.{first}
@@ -62,7 +62,7 @@ unfolding keyFrom keyIndex keyInState keyUnder keyOk keyPartOk partAt keyCount k
 keyParts = tt
 
 unfoldable pub associations : Unit {0}
-unfolding namingOf associationOf held matching bodyServes matches firstFrom entryFor planFor steps stored afterStores
+unfolding namingOf associationOf held matching bodyServes hasSpi matches firstFrom entryFor planFor steps stored afterStores
 associations = tt
 
 unfoldable pub replies : Unit {0}

@@ -11,18 +11,18 @@ use lib.Dec.{eqb, ltb}
 use Rattle.octets.specs.Lists.{octet, part}
 use Rattle.octets.specs.Numbers.{numberAt}
 use Rattle.octets.proofs.Parts.{octet-part}
-use Rattle.bodies.specs.Body.{serviceOf, kindIn, directionOf, stateOf, spacecraftOf, channelOf, holdsSet, mapOf, windowOf, maskOf, bodyIn}
+use Rattle.bodies.specs.Body.{serviceOf, kindIn, directionOf, stateOf, spacecraftOf, channelOf, holdsSet, mapOf, windowOf, maskOf, ownerOf, bodyIn}
 use Rattle.marks.specs.Gray.{ungray}
 use Rattle.image.specs.Image.{versionOf, bodyAt, bodyOf, markAt, markIn, partAt, keyCount, keyIdIn, keyOf}
-use Rattle.bodies.specs.Layout.{versionOne, versionTwo, versionThree, layoutOf}
+use Rattle.bodies.specs.Layout.{versionOne, versionTwo, versionThree, versionFour, ownerPlace, layoutOf}
 use Rattle.bodies.specs.declared.layout.Layout.{Layout}
 use Rattle.image.proofs.Places.{octet-body, number-body, part-body, key-body, key-part, mark-at}
 use Rattle.keys.specs.Keys as keys
 use Rattle.association.specs.Association.{namingOf}
 use Rattle.promises.specs.Images.{shapeIn, spiAt, place, markPlace, serviceAt, kindAt, directionAt, stateAt, spacecraftAt, channelAt, mapAt, windowAt}
 use Rattle.promises.specs.Images.{maskAt, keyIdAt, codeAt, wholeBodyAt, isSet, partPlace, keyCountIn, keyAt, idOfKey, stateOfKey, octetsOfKey}
-use Rattle.promises.specs.Images.{keyFrom, keyOctetsAt}
-use Rattle.promises.specs.Versions.{Shape, first, second, third, shapeOf}
+use Rattle.promises.specs.Images.{keyFrom, keyOctetsAt, ownerAt}
+use Rattle.promises.specs.Versions.{Shape, first, second, third, fourth, shapeOf}
 
 -- ---- a version's shape says what the definitions' layout of it says
 
@@ -33,10 +33,13 @@ pub record Shapes (shape : Shape) (l : Layout) : Type 0 where
   pub mark : l .mark ≡ shape .mark
   pub sets : l .sets ≡ shape .sets
   pub keyPart : l .keys ≡ shape .keyPart
+  pub owners : l .owners ≡ shape .owners
   -- the fields, what a body holds of its key, and the mark, in this order
   pub holds : 18 ≤ shape .mark
   pub inside : shape .mark + 4 ≤ shape .body
   pub held : shape .keyPart ≡ false → 48 ≤ shape .mark
+  -- and behind the mark an owner
+  pub owner : shape .owners ≡ true → (shape .mark ≡ 18) × (23 ≤ shape .body)
   -- a short body names its key; so bodies of one size have their marks at one place
   pub short : shape .keyPart ≡ ltb (shape .body) 48
   pub tail : shape .mark ≡ cond (ltb (shape .body) 48) 18 48
@@ -45,10 +48,11 @@ pub record Shapes (shape : Shape) (l : Layout) : Type 0 where
 
 pub shapes : (version : ℕ) → Shapes (shapeOf version) (layoutOf version)
 unfolding shapeOf layoutOf
-shapes version = by-version (eqb version 3) (eqb version 2)
+shapes version = by-version (eqb version 4) (eqb version 3) (eqb version 2)
   where
-    by-version : (three two : Bool) → Shapes (cond three third (cond two second first)) (cond three versionThree (cond two versionTwo versionOne))
-    by-version true two =
+    by-version : (four three two : Bool) → Shapes (cond four fourth (cond three third (cond two second first)))
+        (cond four versionFour (cond three versionThree (cond two versionTwo versionOne)))
+    by-version true three two =
         record {
           front = refl;
           body = refl;
@@ -56,14 +60,16 @@ shapes version = by-version (eqb version 3) (eqb version 2)
           mark = refl;
           sets = refl;
           keyPart = refl;
+          owners = refl;
           holds = omega arith;
           inside = omega arith;
           held = λ e. absurd (true≢false e);
+          owner = λ e. (refl, omega arith);
           short = refl;
           tail = refl;
           begins = omega arith;
         }
-    by-version false true =
+    by-version false true two =
         record {
           front = refl;
           body = refl;
@@ -71,14 +77,16 @@ shapes version = by-version (eqb version 3) (eqb version 2)
           mark = refl;
           sets = refl;
           keyPart = refl;
+          owners = refl;
           holds = omega arith;
           inside = omega arith;
-          held = λ e. omega arith;
+          held = λ e. absurd (true≢false e);
+          owner = λ e. absurd (true≢false (sym e));
           short = refl;
           tail = refl;
           begins = omega arith;
         }
-    by-version false false =
+    by-version false false true =
         record {
           front = refl;
           body = refl;
@@ -86,9 +94,28 @@ shapes version = by-version (eqb version 3) (eqb version 2)
           mark = refl;
           sets = refl;
           keyPart = refl;
+          owners = refl;
           holds = omega arith;
           inside = omega arith;
           held = λ e. omega arith;
+          owner = λ e. absurd (true≢false (sym e));
+          short = refl;
+          tail = refl;
+          begins = omega arith;
+        }
+    by-version false false false =
+        record {
+          front = refl;
+          body = refl;
+          key = refl;
+          mark = refl;
+          sets = refl;
+          keyPart = refl;
+          owners = refl;
+          holds = omega arith;
+          inside = omega arith;
+          held = λ e. omega arith;
+          owner = λ e. absurd (true≢false (sym e));
           short = refl;
           tail = refl;
           begins = omega arith;
@@ -177,6 +204,18 @@ module _ (image : List ℕ) where
 
     pub set-at : holdsSet (versionOf image) (bodyOf image i) ≡ isSet image i
     set-at = ap₂ _&&_ (here .sets) (ap (λ (n : ℕ). eqb n 3) kind-at)
+
+    pub owner-at : ownerOf (versionOf image) (bodyOf image i) ≡ ownerAt image i
+    owner-at = by-owners (shapeIn image .owners) refl
+      where
+        by-owners : (t : Bool) → shapeIn image .owners ≡ t
+            → ownerOf (versionOf image) (bodyOf image i) ≡ cond t (octet image (place image i 22)) 1
+        by-owners true e =
+            let h = here .owner e in
+            let p : ownerPlace (layoutOf (versionOf image)) ≡ 22 = omega (arith, here .mark, h .0) in
+            rw (here .owners ∙ e, p)
+            (octet-body image i 22 (rw (here .body) (omega (arith, h .1))) ∙ ap (octet image) (stands 22))
+        by-owners false e = rw (here .owners ∙ e)
 
     -- what names the association in an IV
     pub naming-at : namingOf image i ≡ cond (shapeIn image .keyPart) (spiAt image i) 0

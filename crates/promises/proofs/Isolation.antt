@@ -56,19 +56,19 @@ same-left x d e s l o t r p long count = by-answer (ℕ-discrete (x .answer) 0)
 
 -- ---- what a decision reads of the association that matches: what it holds, and its number
 
-record Alike (x y : Seen) : Type 0 where
-  valid : x .valid ≡ y .valid
-  agree : x .agree ≡ y .agree
-  none : isNone (x .found) ≡ isNone (y .found)
-  held : heldIn (theOne (x .found)) ≡ heldIn (theOne (y .found))
-  number : theOne (x .found) .number ≡ theOne (y .found) .number
+pub record Alike (x y : Seen) : Type 0 where
+  pub valid : x .valid ≡ y .valid
+  pub agree : x .agree ≡ y .agree
+  pub none : isNone (x .found) ≡ isNone (y .found)
+  pub held : heldIn (theOne (x .found)) ≡ heldIn (theOne (y .found))
+  pub number : theOne (x .found) .number ≡ theOne (y .found) .number
 
-securing-alike : (x y : Seen) (said : Said) (spi : ℕ) (frame : List ℕ) (room : ℕ) → Alike x y
+pub securing-alike : (x y : Seen) (said : Said) (spi : ℕ) (frame : List ℕ) (room : ℕ) → Alike x y
     → securing x said spi frame room ≡ securing y said spi frame room
 unfolding securing securingTests
 securing-alike x y said spi frame room a = cc
 
-checking-alike : (x y : Seen) (right : Bool) (said : Said) (frame : List ℕ) (room : ℕ) → Alike x y
+pub checking-alike : (x y : Seen) (right : Bool) (said : Said) (frame : List ℕ) (room : ℕ) → Alike x y
     → checking x right said frame room ≡ checking y right said frame room
 unfolding checking checkingTests
 checking-alike x y right said frame room a = cc
@@ -104,7 +104,7 @@ module _ (s l t r : List ℕ) (here : Standing s l) (there : Standing t r) (dire
   tested : (image numbers : List ℕ) → Standing image numbers → validImage image ≡ true
   tested image numbers g = rules-valid image (g .octets) (g .valid)
 
-  entry-of : (image numbers : List ℕ) → Standing image numbers → (i : ℕ) → Serves image direction said spi frame i
+  pub entry-of : (image numbers : List ℕ) → Standing image numbers → (i : ℕ) → Serves image direction said spi frame i
       → entryFor image w ≡ found.At i
   entry-of image numbers g i serves =
       found-matching image (valid image (tested image numbers g)) w i (serves .entry) (served image direction said spi frame i serves)
@@ -117,7 +117,7 @@ module _ (s l t r : List ℕ) (here : Standing s l) (there : Standing t r) (dire
       by-test true e = absurd (nobody i (serving image direction said spi frame i below e))
       by-test false e = refl
 
-  same-seen : SameEntry s l t r direction said spi frame → Alike (seen s l w) (seen t r w)
+  pub same-seen : SameEntry s l t r direction said spi frame → Alike (seen s l w) (seen t r w)
   unfolding seen matching associationOf held
   same-seen same = by-entry same (tested s l here ∙ sym (tested t r there))
       (agreement-tested s l (here .octets) (here .agree) ∙ sym (agreement-tested t r (there .octets) (there .agree)))

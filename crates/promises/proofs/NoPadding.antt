@@ -34,6 +34,7 @@ never-nine =
           given-not 9 (checkingTests (seen image numbers (checkingWants said frame)) right said frame (length output)) (λ e. omega arith)
           (other 1 _ (λ e. omega arith)
           (other 2 _ (λ e. omega arith)
+          (other 19 _ (λ e. omega arith)
           (other 3 _ (λ e. omega arith)
           (other 12 _ (λ e. omega arith)
           (other 4 _ (λ e. omega arith)
@@ -41,6 +42,6 @@ never-nine =
           (other 6 _ (λ e. omega arith)
           (other 7 _ (λ e. omega arith)
           (other 8 _ (λ e. omega arith)
-          none)))))))))
+          none))))))))))
           (sym (left-answer reply image numbers output) ∙ nine);
     }

@@ -49,7 +49,7 @@ use Rattle.promises.proofs.Forms.{Describes, described, under-mask}
 
 -- whether a check field is absent or may be there
 abbrev may : Said → Bool
-may said = not (said .checkField) || kindOf (said .kind) .mayEndInField
+may said = not (said .field) || kindOf (said .kind) .mayEndInField
 
 present-so : (present allowed : Bool) → (not present || allowed) ≡ true → present ≡ true → allowed ≡ true
 present-so true allowed e p = e
@@ -77,7 +77,7 @@ module _ (said : Said) where
           header = form .kept frame (and-left _ (may said) (o .rules)) (o .lengthOk);
           largest = rw (form .largest) (o .largest);
           smallest = rw (header-size frame, trailer-size frame) (o .room);
-          ending = λ present. form .ending ∙ present-so (said .checkField) _ (and-right (kindOf (said .kind) .rules frame) _ (o .rules)) present;
+          ending = λ present. form .ending ∙ present-so (said .field) _ (and-right (kindOf (said .kind) .rules frame) _ (o .rules)) present;
         }
 
     pub frame-tested : FrameRules said frame (least secured) → obeys (kindSaid said) frame secured ≡ true
@@ -85,7 +85,7 @@ module _ (said : Said) where
         let t = form .tested frame (f .header) in
         obeying (kindSaid said) frame secured
         (record {
-          rules = ap₂ _&&_ (t .0) (allowed-so (said .checkField) _ (λ present. sym (form .ending) ∙ f .ending present));
+          rules = ap₂ _&&_ (t .0) (allowed-so (said .field) _ (λ present. sym (form .ending) ∙ f .ending present));
           lengthOk = t .1;
           largest = rw (← form .largest) (f .largest);
           room = rw (← header-size frame, ← trailer-size frame) (f .smallest);
@@ -103,14 +103,14 @@ module _ (said : Said) where
     unfolding fieldOk
     field-kept e = record { right = λ present. by-presence present e }
       where
-        by-presence : said .checkField ≡ true → (not (said .checkField) || rightField frame) ≡ true
+        by-presence : said .field ≡ true → (not (said .field) || rightField frame) ≡ true
             → drop (beforeField said frame) frame ≡ bytes 2 (checkField (take (beforeField said frame) frame))
-        by-presence present ok = rw present (same-eq _ _ (sym of-front ∙ present-so (said .checkField) (rightField frame) ok present))
+        by-presence present ok = rw present (same-eq _ _ (sym of-front ∙ present-so (said .field) (rightField frame) ok present))
 
     pub field-tested : RightField said frame → fieldOk (kindSaid said) frame ≡ true
     unfolding fieldOk
     field-tested f =
-        allowed-so (said .checkField) (rightField frame)
+        allowed-so (said .field) (rightField frame)
         (λ present.
         let e : drop (length frame - 2) frame ≡ bytes 2 (checkField (take (length frame - 2) frame)) = rw present at (f .right present) in
         of-front ∙ rw e (same-refl (bytes 2 (checkField (take (length frame - 2) frame)))))

@@ -6,7 +6,7 @@ use mathlib.Core.Path.{_≡_, refl, sym, ap, ap₂, _∙_}
 use mathlib.Core.Bool.{Bool, true, false, cond, _&&_}
 use mathlib.Core.List.{List}
 use native.Mathlib.Omega.{arith}
-use borrow.Author.Tests.{lt-ltb, le-leb}
+use borrow.Author.Tests.{lt-ltb, le-leb, le-ltb}
 use lib.ListN.{length}
 use Rattle.octets.specs.Lists.{Octets}
 use Rattle.kinds.specs.Kinds.{Kind}
@@ -29,16 +29,16 @@ use Rattle.judging.proofs.Searches.{Finds, finds-at}
 use Rattle.protection.proofs.Wire as wire
 use Rattle.promises.specs.Frames as words
 use Rattle.promises.specs.Images.{shapeIn, countIn, spiAt, serviceAt, windowAt, lastAt, ImageRules, Agreeing, InWindow, Serves}
-use Rattle.promises.specs.RoundTrip.{OtherEnd, Released, RoundTrip}
+use Rattle.promises.specs.RoundTrip.{by, OtherEnd, Released, RoundTrip}
 use Rattle.promises.proofs.Fields.{service-at, window-at, mask-at, key-at, naming-at}
 use Rattle.promises.proofs.Readings.{form, data-in-clear, spi-on}
 use Rattle.promises.proofs.Sent as sent
-use Rattle.promises.proofs.Valids.{rules-valid, agreement-tested, served}
+use Rattle.promises.proofs.Valids.{rules-valid, agreement-tested, desk-known, served}
 
 -- ---- the two associations hold the same service, mask and key, and make the IV alike
 
-module _ (here sendNumbers there numbers : List ℕ) (e i : ℕ) (said : Said) (frame : List ℕ)
-    (other : OtherEnd said frame here e there numbers i) where
+module _ (here sendNumbers there numbers : List ℕ) (e i desk : ℕ) (said : Said) (frame : List ℕ)
+    (other : OtherEnd said frame here e there numbers i desk) where
   abbrev h : Held
   h = heldIn (associationOf here sendNumbers e)
 
@@ -89,7 +89,7 @@ module _ (there numbers : List ℕ) (octets : Octets there) (said : Said) (spi n
   reply = checkingReply true there numbers said S (length output)
 
   kept : Kept k frame S
-  kept = wire.kept r (kindSaid said) (lawful (said .checkField) (said .kind)) spi n frame clear fits
+  kept = wire.kept r (kindSaid said) (lawful (said .field) (said .kind)) spi n frame clear fits
 
   small-spi : spi < 2 ^ 16
   small-spi = omega (arith, rules .spi i (serves .entry) .1, serves .spis)
@@ -98,7 +98,8 @@ module _ (there numbers : List ℕ) (octets : Octets there) (said : Said) (spi n
   serves-secured =
       record {
         entry = serves .entry;
-        spis = serves .spis ∙ sym (spi-on said S ∙ wire.spi-secured r (kindSaid said) (lawful (said .checkField) (said .kind)) spi n frame clear fits small-spi);
+        spis = serves .spis ∙ sym (spi-on said S ∙ wire.spi-secured r (kindSaid said) (lawful (said .field) (said .kind)) spi n frame clear fits small-spi);
+        seen = serves .seen;
         state = serves .state;
         directions = serves .directions;
         kinds = serves .kinds;
@@ -117,20 +118,20 @@ module _ (there numbers : List ℕ) (octets : Octets there) (said : Said) (spi n
 
   compared : comparison there numbers said S ≡ true
   unfolding comparison seen
-  compared = rw (finding .association) (wire.right-secured r (kindSaid said) (lawful (said .checkField) (said .kind)) spi n frame clear fits)
+  compared = rw (finding .association) (wire.right-secured r (kindSaid said) (lawful (said .field) (said .kind)) spi n frame clear fits)
 
   inside : accepts (associationOf there numbers i .number) (r .window) (numberIn r k S) ≡ true
   unfolding associationOf held
   inside =
       let e = window-at there i in
-      let m = wire.number-secured r (kindSaid said) (lawful (said .checkField) (said .kind)) spi n frame clear fits (omega (arith, window .most)) in
+      let m = wire.number-secured r (kindSaid said) (lawful (said .field) (said .kind)) spi n frame clear fits (omega (arith, window .most)) in
       rw m
       (ap₂ _&&_
       (ap₂ _&&_ (lt-ltb (lastAt numbers i) n (window .above)) (le-leb n (lastAt numbers i + r .window) (omega (arith, window .near))))
       (le-leb n greatest (window .most)))
 
   data-long : clearLength r k S ≡ length (words.dataInClear said frame)
-  data-long = wire.length-data r (kindSaid said) (lawful (said .checkField) (said .kind)) spi n frame clear fits ∙ ap length (sym (data-in-clear said frame))
+  data-long = wire.length-data r (kindSaid said) (lawful (said .field) (said .kind)) spi n frame clear fits ∙ ap length (sym (data-in-clear said frame))
 
   tests : Checks (seen there numbers w) true said S (length output)
   unfolding seen
@@ -140,13 +141,14 @@ module _ (there numbers : List ℕ) (octets : Octets there) (said : Said) (spi n
             record {
               valid = rules-valid there octets rules;
               agree = agreement-tested there numbers octets agree;
-              rules = wire.obeys-secured r (kindSaid said) (lawful (said .checkField) (said .kind)) spi n frame clear fits;
-              field = wire.field-right r (kindSaid said) (lawful (said .checkField) (said .kind)) spi n frame clear fits;
+              desk = le-ltb 2 (said .desk) (desk-known there (said .desk) i (rules .body i (serves .entry)) (serves .seen));
+              rules = wire.obeys-secured r (kindSaid said) (lawful (said .field) (said .kind)) spi n frame clear fits;
+              field = wire.field-right r (kindSaid said) (lawful (said .field) (said .kind)) spi n frame clear fits;
               found = finding .some;
             };
         under =
             record {
-              long = rw (finding .association) (wire.not-short r (kindSaid said) (lawful (said .checkField) (said .kind)) spi n frame clear fits);
+              long = rw (finding .association) (wire.not-short r (kindSaid said) (lawful (said .field) (said .kind)) spi n frame clear fits);
               roomy = rw (finding .association, data-long) room;
               mac = refl;
               window = rw (finding .association) inside;
@@ -174,7 +176,7 @@ module _ (there numbers : List ℕ) (octets : Octets there) (said : Said) (spi n
             handed-result reply there numbers output
             (checking-size (seen there numbers w) true said S (length output))
             ∙ ap (λ (x : Association). clearData (heldIn x) k S) (finding .association)
-            ∙ wire.data-secured r (kindSaid said) (lawful (said .checkField) (said .kind)) spi n frame clear fits
+            ∙ wire.data-secured r (kindSaid said) (lawful (said .field) (said .kind)) spi n frame clear fits
             ∙ sym (data-in-clear said frame);
       })
 
@@ -183,23 +185,23 @@ module _ (there numbers : List ℕ) (octets : Octets there) (said : Said) (spi n
 pub round-trip : RoundTrip
 round-trip = record { released = both-ends }
   where
-    both-ends : (here sendNumbers : List ℕ) (said : Said) (spi : ℕ) (frame sendOutput there numbers output : List ℕ) (e i : ℕ)
+    both-ends : (here sendNumbers : List ℕ) (said : Said) (spi : ℕ) (frame sendOutput there numbers output : List ℕ) (e i desk : ℕ)
         → Octets there
         → let x = secured here sendNumbers said spi frame sendOutput in
         x .answer ≡ 0
         → e < countIn here
         → spiAt here e ≡ spi
-        → OtherEnd said frame here e there numbers i
+        → OtherEnd said frame here e there numbers i desk
         → InWindow (lastAt numbers i) (windowAt there i) (words.numberOn (shapeIn here) (serviceAt here e) said (handed x))
         → length (words.dataInClear said frame) ≤ length output
-        → Released (words.dataInClear said frame) (checked there numbers said (handed x) output)
-    both-ends here sendNumbers said spi frame sendOutput there numbers output e i octets done-so below spis other window room =
+        → Released (words.dataInClear said frame) (checked there numbers (by desk said) (handed x) output)
+    both-ends here sendNumbers said spi frame sendOutput there numbers output e i desk octets done-so below spis other window room =
         let used = sent.used here sendNumbers said spi frame sendOutput e below spis done-so in
         let s = used .serves in
         let n = lastAt sendNumbers e + 1 in
         let h = heldIn (associationOf here sendNumbers e) in
         let g = heldIn (associationOf there numbers i) in
-        let services = same-service here sendNumbers there numbers e i said frame other in
+        let services = same-service here sendNumbers there numbers e i desk said frame other in
         let fits : securedLength g frame ≤ kindSaid said .largest =
         rw services (sent.fits here sendNumbers said spi frame sendOutput e below spis done-so)
         in
@@ -208,13 +210,14 @@ round-trip = record { released = both-ends }
         in
         let out : handed (secured here sendNumbers said spi frame sendOutput) ≡ securedFrame g (kindSaid said) spi n frame =
         sent.out here sendNumbers said spi frame sendOutput e below spis done-so
-        ∙ wire.alike-frame h g (kindSaid said) spi n frame services (same-mask here sendNumbers there numbers e i said frame other)
-        (same-key here sendNumbers there numbers e i said frame other) (same-naming here sendNumbers there numbers e i said frame other)
+        ∙ wire.alike-frame h g (kindSaid said) spi n frame services (same-mask here sendNumbers there numbers e i desk said frame other)
+        (same-key here sendNumbers there numbers e i desk said frame other) (same-naming here sendNumbers there numbers e i desk said frame other)
         in
-        let serves : Serves there 2 said spi frame i =
+        let serves : Serves there 2 (by desk said) spi frame i =
         record {
           entry = other .entry;
           spis = other .spi ∙ spis;
+          seen = other .seen;
           state = other .state;
           directions = other .direction;
           kinds = other .kind ∙ s .kinds;
@@ -224,5 +227,5 @@ round-trip = record { released = both-ends }
         }
         in
         rw out
-        (released there numbers octets said spi n frame output i
+        (released there numbers octets (by desk said) spi n frame output i
         (sent.clear here sendNumbers said spi frame sendOutput e below spis done-so) fits (other .valid) (other .agree) serves near room)

@@ -114,15 +114,15 @@ module _ (image numbers : List ℕ) (said : Said) (spi : ℕ) (frame output : Li
   header-octet j below-header =
       let k = kindSaid said in
       let n = lastAt numbers e + 1 in
-      let long = wire.length-secured h (kindSaid said) (lawful (said .checkField) (said .kind)) spi n frame clear fits in
-      let same = wire.kept h (kindSaid said) (lawful (said .checkField) (said .kind)) spi n frame clear fits .header in
+      let long = wire.length-secured h (kindSaid said) (lawful (said .field) (said .kind)) spi n frame clear fits in
+      let same = wire.kept h (kindSaid said) (lawful (said .field) (said .kind)) spi n frame clear fits .header in
       let room = obeyed k frame false clear .room in
       sym (getD-take (k .header S) S j 0 (omega arith))
-      ∙ ap (λ (s : List ℕ). octet s j) (wire.header-read h (kindSaid said) (lawful (said .checkField) (said .kind)) spi n frame clear fits)
+      ∙ ap (λ (s : List ℕ). octet s j) (wire.header-read h (kindSaid said) (lawful (said .field) (said .kind)) spi n frame clear fits)
       ∙ rw long (form said .copied (securedLength h frame) frame j fits (omega arith) below-header)
 
   read-back : numberIn h (kindSaid said) S ≡ lastAt numbers e + 1
-  read-back = wire.number-secured h (kindSaid said) (lawful (said .checkField) (said .kind)) spi (lastAt numbers e + 1) frame clear fits small
+  read-back = wire.number-secured h (kindSaid said) (lawful (said .field) (said .kind)) spi (lastAt numbers e + 1) frame clear fits small
 
   named : Opens (shapeIn image) (h .service) said spi S × (words.numberOn (shapeIn image) (h .service) said S ≡ lastAt numbers e + 1)
   unfolding associationOf held
@@ -134,26 +134,26 @@ module _ (image numbers : List ℕ) (said : Said) (spi : ℕ) (frame output : Li
   secured-from : length (h .mask) ≡ 6 → SecuredFrom (shapeIn image) (h .service) said spi (lastAt numbers e + 1) (h .mask) (h .key) frame S
   secured-from six =
       let n = lastAt numbers e + 1 in
-      let long = wire.length-secured h (kindSaid said) (lawful (said .checkField) (said .kind)) spi n frame clear fits in
+      let long = wire.length-secured h (kindSaid said) (lawful (said .field) (said .kind)) spi n frame clear fits in
       record {
         size = omega (arith, long, security-size h said S);
-        rules = frame-kept said S true (wire.obeys-secured h (kindSaid said) (lawful (said .checkField) (said .kind)) spi n frame clear fits);
+        rules = frame-kept said S true (wire.obeys-secured h (kindSaid said) (lawful (said .field) (said .kind)) spi n frame clear fits);
         header = λ j below-header. header-octet j (omega (arith, header-size said frame));
-        spis = spi-on said S ∙ wire.spi-secured h (kindSaid said) (lawful (said .checkField) (said .kind)) spi n frame clear fits small-spi;
+        spis = spi-on said S ∙ wire.spi-secured h (kindSaid said) (lawful (said .field) (said .kind)) spi n frame clear fits small-spi;
         opens = named .0;
         number = named .1;
         text =
             sym (text-on h said S)
-            ∙ wire.text-read h (kindSaid said) (lawful (said .checkField) (said .kind)) spi n frame clear fits
-            ∙ ap₂ (serviceIn h .goingOut (h .key)) (sym (wire.field-read h (kindSaid said) (lawful (said .checkField) (said .kind)) spi n frame clear fits) ∙ field-on h said S)
+            ∙ wire.text-read h (kindSaid said) (lawful (said .field) (said .kind)) spi n frame clear fits
+            ∙ ap₂ (serviceIn h .goingOut (h .key)) (sym (wire.field-read h (kindSaid said) (lawful (said .field) (said .kind)) spi n frame clear fits) ∙ field-on h said S)
             (sym (data-in-clear said frame))
             ∙ going-out (h .service) (h .key) (words.fieldOn (h .service) said S) (words.dataInClear said frame);
-        mac = sym (same-eq _ _ (sym (mac-right h said S six) ∙ wire.right-secured h (kindSaid said) (lawful (said .checkField) (said .kind)) spi n frame clear fits));
+        mac = sym (same-eq _ _ (sym (mac-right h said S six) ∙ wire.right-secured h (kindSaid said) (lawful (said .field) (said .kind)) spi n frame clear fits));
         control =
             control-on said S
-            ∙ wire.control-read h (kindSaid said) (lawful (said .checkField) (said .kind)) spi n frame clear fits
+            ∙ wire.control-read h (kindSaid said) (lawful (said .field) (said .kind)) spi n frame clear fits
             ∙ sym (control-on said frame);
-        field = field-kept said S (wire.field-right h (kindSaid said) (lawful (said .checkField) (said .kind)) spi n frame clear fits);
+        field = field-kept said S (wire.field-right h (kindSaid said) (lawful (said .field) (said .kind)) spi n frame clear fits);
       }
 
   pub made : SecuredFrom (shapeIn image) (serviceAt image e) said spi (lastAt numbers e + 1) (maskAt image e) (keyOctetsAt image e) frame

@@ -3,7 +3,8 @@
 -- Assumes nothing.
 use Prim.Native.Nat.{ℕ, zero, suc, _-_, _/_, _%_, _^_, _≤_, _<_}
 use mathlib.Core.Path.{_≡_, refl, sym, ap, ap₂, _∙_}
-use mathlib.Core.Bool.{Bool, true, false, not, cond, _&&_, _||_}
+use mathlib.Core.Logic.{inl, inr}
+use mathlib.Core.Bool.{Bool, true, false, not, cond, _&&_, _||_, or-true}
 use mathlib.Core.List.{List}
 use native.Mathlib.Nat.{add-zero}
 use native.Mathlib.Decide.{decLt}
@@ -16,7 +17,7 @@ use Rattle.octets.proofs.Alls.{and-left, and-right, all-every}
 use Rattle.octets.proofs.Numbers.{numberAt-lt}
 use Rattle.kinds.specs.Kinds.{hasMap, kindOf, named}
 use Rattle.bodies.specs.Body.{serviceOf, kindIn, directionOf, stateOf, spacecraftOf, channelOf, holdsSet, mapOf, windowOf, maskOf}
-use Rattle.bodies.specs.Body.{channelOk, kindOk, windowFits, windowOk, bodyOk}
+use Rattle.bodies.specs.Body.{ownerOf, channelOk, kindOk, windowFits, windowOk, bodyOk}
 use Rattle.marks.specs.Gray.{gray, ungray}
 use Rattle.image.specs.Image.{versionOf, countOf, layout, spiOf, spiBefore, positionOf, bodyAt, bodyOf, imageSize, laidOut, entryOk, validImage}
 use Rattle.image.specs.Image.{partAt, keyCount, keyIn, keyIdIn, keyedOk, keysOk}
@@ -25,7 +26,7 @@ use Rattle.keys.proofs.FoundKeys.{ValidKeys, valid-keys, index-has, index-of}
 use Rattle.bodies.specs.Layout.{layoutOf, versionOk}
 use Rattle.image.specs.Image.{markIn}
 use Rattle.numbers.specs.Numbers.{agrees}
-use Rattle.association.specs.Search.{inSet, servesChannel, bodyServes, matches}
+use Rattle.association.specs.Search.{inSet, servesChannel, bodyServes, sees, hasSpi, matches}
 use Rattle.association.specs.declared.search.Wanted.{Wanted}
 use Rattle.marks.proofs.GrayCode.{gray-lt, gray-below, gray-ungray, ungray-gray}
 use Rattle.numbers.proofs.LoadedNumbers.{agreed, agreeing}
@@ -34,10 +35,10 @@ use Rattle.image.proofs.ValidImages.{Keyed, Valid, valid, spi-rises}
 use Rattle.judging.specs.Wants.{wanted}
 use Rattle.judging.specs.Said.{Said, kindSaid}
 use Rattle.promises.specs.Forms.{formOf}
-use Rattle.promises.specs.Images.{markPlace, codeAt, lastAt, ServesChannel, BodyRules, KeyRules, ImageRules, sizeIn, Agreeing, Serves}
+use Rattle.promises.specs.Images.{markPlace, codeAt, lastAt, ServesChannel, BodyRules, KeyRules, ImageRules, sizeIn, Agreeing, Sees, Serves}
 use Rattle.promises.specs.Images.{keyCountIn, idOfKey, stateOfKey, HasId, KeyInState}
 use Rattle.promises.proofs.Fields.{service-at, kind-at, direction-at, state-at, spacecraft-at, channel-at, map-at, window-at}
-use Rattle.promises.proofs.Fields.{shapes, stands, last-mask-at, mark-is, set-at, part-place, key-count, key-id, key-state, key-id-at}
+use Rattle.promises.proofs.Fields.{shapes, stands, last-mask-at, mark-is, set-at, part-place, key-count, key-id, key-state, key-id-at, owner-at}
 use Rattle.promises.proofs.Forms.{Describes, described}
 use Rattle.promises.proofs.Readings.{form}
 
@@ -75,24 +76,28 @@ has-map (suc (suc (suc (suc (suc n))))) =
 
 -- ---- the versions that there are
 
-known : (version : ℕ) → versionOk version ≡ true → (1 ≤ version) × (version ≤ 3)
+known : (version : ℕ) → versionOk version ≡ true → (1 ≤ version) × (version ≤ 4)
 unfolding layoutOf
 known zero e = let z : _≡_ {A = ℕ} 0 1 = cc in absurd (omega arith)
 known (suc zero) e = (omega arith, omega arith)
 known (suc (suc zero)) e = (omega arith, omega arith)
 known (suc (suc (suc zero))) e = (omega arith, omega arith)
-known (suc (suc (suc (suc n)))) e =
-    let other : ℕ = suc (suc (suc (suc n))) in
-    let same : other ≡ 1 = eqb-true other 1 (rw (ne-eqb other 3 (omega arith), ne-eqb other 2 (omega arith)) at e) in
+known (suc (suc (suc (suc zero)))) e = (omega arith, omega arith)
+known (suc (suc (suc (suc (suc n))))) e =
+    let other : ℕ = suc (suc (suc (suc (suc n)))) in
+    let same : other ≡ 1 =
+    eqb-true other 1 (rw (ne-eqb other 4 (omega arith), ne-eqb other 3 (omega arith), ne-eqb other 2 (omega arith)) at e)
+    in
     absurd (omega arith)
 
-version-ok : (version : ℕ) → (1 ≤ version) × (version ≤ 3) → versionOk version ≡ true
+version-ok : (version : ℕ) → (1 ≤ version) × (version ≤ 4) → versionOk version ≡ true
 unfolding layoutOf
 version-ok zero h = absurd (omega arith)
 version-ok (suc zero) h = refl
 version-ok (suc (suc zero)) h = refl
 version-ok (suc (suc (suc zero))) h = refl
-version-ok (suc (suc (suc (suc n)))) h = absurd (omega arith)
+version-ok (suc (suc (suc (suc zero)))) h = refl
+version-ok (suc (suc (suc (suc (suc n))))) h = absurd (omega arith)
 
 -- ---- the keys
 
@@ -185,6 +190,7 @@ module _ (image : List ℕ) (octets : Octets image) where
         window = λ serves. rw (← window-at image i) (b .window (state-at image i ∙ serves));
         mask = λ tc. sym (last-mask-at image i) ∙ (rw (mask-of-tc (kindIn (bodyOf image i)) (kinds ∙ tc)) at (a .mask));
         mark = rw (code-of-mark image octets i) (gray-lt 26 (markIn image i) (b .mark));
+        owner = rw (← owner-at image i) (b .owner);
       }
 
   key-rules : Keyed image → KeyRules image
@@ -281,6 +287,7 @@ module _ (image : List ℕ) (octets : Octets image) where
         (ap₂ _&&_
         (ap₂ _&&_
         (ap₂ _&&_
+        (ap₂ _&&_
         (ap₂ _&&_ (between-tested 1 (serviceOf body) 2 (rw (service-at image i) (b .service)))
         (between-tested 1 (directionOf body) 2 (rw (direction-at image i) (b .direction))))
         (le-leb (stateOf body) 2 (rw (state-at image i) (b .state))))
@@ -290,7 +297,8 @@ module _ (image : List ℕ) (octets : Octets image) where
         (rw (map-at image i, ← limits .mostMap, kind-at image i) (b .map))
         (λ e. last-mask-at image i ∙ b .mask (sym (kind-at image i) ∙ e))))
         window-ok)
-        (lt-ltb (markIn image i) (2 ^ 26) mark-fits)
+        (lt-ltb (markIn image i) (2 ^ 26) mark-fits))
+        (between-tested 1 (ownerOf (versionOf image) body) 2 (rw (owner-at image i) (b .owner)))
 
 module _ (image : List ℕ) (octets : Octets image) (rules : ImageRules image) where
   before-below : (i : ℕ) → i < countOf image → spiBefore image i < spiOf image i
@@ -372,6 +380,35 @@ module _ (image : List ℕ) (i : ℕ) where
       ap₂ _&&_ (lt-ltb channel 8 (h .0)) (eq-eqb (channelOf body / 2 ^ channel % 2) 1 (rw (channel-at image i) (h .1))))
       (λ one. eq-eqb (channelOf body) channel (channel-at image i ∙ s .one (sym (set-at image i) ∙ one)))
 
+-- whether the desk sees it
+module _ (image : List ℕ) (desk i : ℕ) where
+  pub seen-kept : sees desk (ownerOf (versionOf image) (bodyOf image i)) ≡ true → Sees image desk i
+  seen-kept e = by-office (eqb desk 0) refl e
+    where
+      by-office : (t : Bool) → eqb desk 0 ≡ t → (t || eqb desk (ownerOf (versionOf image) (bodyOf image i))) ≡ true → Sees image desk i
+      by-office true office e2 = inl (eqb-true desk 0 office)
+      by-office false other e2 = inr (sym (owner-at image i) ∙ sym (eqb-true desk (ownerOf (versionOf image) (bodyOf image i)) e2))
+
+  pub seen-tested : Sees image desk i → sees desk (ownerOf (versionOf image) (bodyOf image i)) ≡ true
+  seen-tested (inl office) = rw office
+  seen-tested (inr own) =
+      let e : desk ≡ ownerOf (versionOf image) (bodyOf image i) = sym own ∙ sym (owner-at image i) in
+      rw (eq-eqb desk (ownerOf (versionOf image) (bodyOf image i)) e) (or-true (eqb desk 0))
+
+  -- a desk that sees an entry of a valid image is one of the three
+  pub desk-known : BodyRules image i → Sees image desk i → desk ≤ 2
+  desk-known b (inl office) = omega arith
+  desk-known b (inr own) = omega (arith, b .owner .1)
+
+module _ (image : List ℕ) (desk spi i : ℕ) where
+  pub named-kept : hasSpi image desk spi i ≡ true → (spiOf image i ≡ spi) × Sees image desk i
+  unfolding hasSpi
+  named-kept e = (eqb-true (spiOf image i) spi (search and-left), seen-kept image desk i (search and-right))
+
+  pub named-tested : spiOf image i ≡ spi → Sees image desk i → hasSpi image desk spi i ≡ true
+  unfolding hasSpi
+  named-tested spis s = ap₂ _&&_ (eq-eqb (spiOf image i) spi spis) (seen-tested image desk i s)
+
 module _ (image : List ℕ) (direction : ℕ) (said : Said) (spi : ℕ) (frame : List ℕ) (i : ℕ) where
   abbrev w : Wanted
   w = wanted spi direction said frame
@@ -382,7 +419,8 @@ module _ (image : List ℕ) (direction : ℕ) (said : Said) (spi : ℕ) (frame :
       let body = bodyOf image i in
       record {
         entry = below;
-        spis = eqb-true (spiOf image i) spi (search and-left);
+        spis = named-kept image (said .desk) spi i (search and-left) .0;
+        seen = named-kept image (said .desk) spi i (search and-left) .1;
         state = sym (state-at image i) ∙ eqb-true (stateOf body) 2 (search (and-left, and-right));
         directions = sym (direction-at image i) ∙ eqb-true (directionOf body) direction (search (and-left, and-right));
         kinds = sym (kind-at image i) ∙ eqb-true (kindIn body) (said .kind) (search (and-left, and-right));
@@ -403,7 +441,7 @@ module _ (image : List ℕ) (direction : ℕ) (said : Said) (spi : ℕ) (frame :
   unfolding matches bodyServes wanted
   served s =
       let body = bodyOf image i in
-      ap₂ _&&_ (eq-eqb (spiOf image i) spi (s .spis))
+      ap₂ _&&_ (named-tested image (said .desk) spi i (s .spis) (s .seen))
       (ap₂ _&&_
       (ap₂ _&&_
       (ap₂ _&&_

@@ -43,6 +43,7 @@ pub record Table : Type 0 where
   pub sixteen : reported answer.BadValue ≡ reporting 16 0 0
   pub seventeen : reported answer.UnknownKey ≡ reporting 17 0 0
   pub eighteen : reported answer.WrongKeyState ≡ reporting 18 0 0
+  pub nineteen : reported answer.WrongDesk ≡ reporting 19 0 0
 
 -- ---- the first rule that is broken
 
@@ -70,7 +71,7 @@ pub record Exactly (rules : Rules) (report : Reported) : Type 0 where
 abbrev pub loadRules : List ℕ → Rules
 loadRules image = rule answer.BadImage (ImageRules image) noMore
 
--- in the order 1, 2, 3, 12, 4, 11, 6, 10; `under` the entry that serves the frame, of which a valid image has at most one
+-- in the order 1, 2, 19, 3, 12, 4, 11, 6, 10; `under` the entry that serves the frame, of which a valid image has at most one
 abbrev pub securingRules : List ℕ → List ℕ → Said → ℕ → List ℕ → List ℕ → Rules
 securingRules image numbers said spi frame output =
     let serves : ℕ → Type 0 = Serves image 1 said spi frame in
@@ -78,15 +79,16 @@ securingRules image numbers said spi frame output =
     let size : ℕ → ℕ = λ e. length frame + securitySize (serviceAt image e) + 16 in
     rule answer.BadImage (ImageRules image)
     (rule answer.BadMarks (Agreeing image numbers)
+    (rule answer.WrongDesk (said .desk ≤ 2)
     (rule answer.BadFrame (FrameRules said frame 1)
     (rule answer.WrongCheckField (RightField said frame)
     (rule answer.NoEntry ((e : ℕ) × serves e)
     (rule answer.TooLong (under (λ e. size e ≤ formSaid said .largest))
     (rule answer.NoRoom (under (λ e. size e ≤ length output))
     (rule answer.NumbersSpent (under (λ e. lastAt numbers e < 4294967295))
-    noMore)))))))
+    noMore))))))))
 
--- in the order 1, 2, 3, 12, 4, 5, 6, 7, 8; the last is also for an IV that begins as no IV of the entry does
+-- in the order 1, 2, 19, 3, 12, 4, 5, 6, 7, 8; the last is also for an IV that begins as no IV of the entry does
 abbrev pub checkingRules : List ℕ → List ℕ → Said → List ℕ → List ℕ → Rules
 checkingRules image numbers said frame output =
     let spi : ℕ = spiOn said frame in
@@ -98,6 +100,7 @@ checkingRules image numbers said frame output =
     let right : ℕ → List ℕ = λ e. rightMac (serviceAt image e) said (maskAt image e) (keyOctetsAt image e) frame in
     rule answer.BadImage (ImageRules image)
     (rule answer.BadMarks (Agreeing image numbers)
+    (rule answer.WrongDesk (said .desk ≤ 2)
     (rule answer.BadFrame (FrameRules said frame 2)
     (rule answer.WrongCheckField (RightField said frame)
     (rule answer.NoEntry ((e : ℕ) × serves e)
@@ -105,7 +108,7 @@ checkingRules image numbers said frame output =
     (rule answer.NoRoom (under (λ e. length (text e) ≤ length output))
     (rule answer.WrongMac (under (λ e. right e ≡ macOn said frame))
     (rule answer.OutsideWindow (under (λ e. Opens (shapeIn image) (serviceAt image e) said spi frame × InWindow (lastAt numbers e) (windowAt image e) (number e)))
-    noMore))))))))
+    noMore)))))))))
 
 pub record Answering : Type 0 where
   pub table : Table

@@ -13,7 +13,7 @@ use Rattle.octets.specs.Numbers.{bytes}
 use Rattle.octets.specs.Same.{same}
 use Rattle.check_field.specs.CheckField.{withField}
 use Rattle.link.specs.Calls.{Left, loaded, secured, checkedAs, checkedCutAs}
-use Rattle.judging.specs.Said.{Said, saying}
+use Rattle.judging.specs.Said.{Said}
 use Rattle.promises.specs.Images.{countIn, positionAt}
 
 abbrev pub allTrue : List Bool → Bool
@@ -57,12 +57,12 @@ securedC n = 0x00 ∷ 0x1B ∷ 0x14 ∷ 0x1B ∷ 0x00 ∷ 0x00 ∷ 0x09 ∷ (byt
 unfoldable pub clearTc : ℕ → List ℕ
 clearTc n = 0x00 ∷ 0x1B ∷ (0x14 + (n - 1) / 256) ∷ ((n - 1) % 256) ∷ 0x00 ∷ replicate (n - 5) 0xAA
 
--- what is said of a frame: its kind, without a check field and with one
+-- what desk 1 says of a frame: its kind, without a check field and with one
 abbrev pub bare : ℕ → Said
-bare kind = saying kind false
+bare kind = record { desk = 1; kind = kind; field = false }
 
 abbrev pub fielded : ℕ → Said
-fielded kind = saying kind true
+fielded kind = record { desk = 1; kind = kind; field = true }
 
 unfoldable pub room : List ℕ
 room = replicate 1100 0

@@ -24,7 +24,7 @@ headerSize said frame = formSaid said .header frame
 
 -- the check field has 2 octets, where it is present
 abbrev pub checkFieldSize : Said → ℕ
-checkFieldSize said = cond (said .checkField) 2 0
+checkFieldSize said = cond (said .field) 2 0
 
 abbrev pub trailerSize : Said → List ℕ → ℕ
 trailerSize said frame = formSaid said .trailer frame + checkFieldSize said
@@ -103,11 +103,11 @@ pub record FrameRules (said : Said) (frame : List ℕ) (least : ℕ) : Type 0 wh
   pub header : formSaid said .Header frame
   pub largest : length frame ≤ formSaid said .largest
   pub smallest : headerSize said frame + least + trailerSize said frame ≤ length frame
-  pub ending : said .checkField ≡ true → formSaid said .mayEndInField ≡ true
+  pub ending : said .field ≡ true → formSaid said .mayEndInField ≡ true
 
 -- answer 12: a check field is that of all octets before it, as the standard gives it, the high octet first
 pub record RightField (said : Said) (frame : List ℕ) : Type 0 where
-  pub right : said .checkField ≡ true → drop (beforeField said frame) frame ≡ bytes 2 (checkField (take (beforeField said frame) frame))
+  pub right : said .field ≡ true → drop (beforeField said frame) frame ≡ bytes 2 (checkField (take (beforeField said frame) frame))
 
 -- ---- the secured frame of a clear one
 

@@ -1,10 +1,11 @@
--- Document 01, 'The image' and 'Managed numbers', and document 02, requests 2, 5 and 9, in the octets of an image: where each field of an
+-- Document 01, 'The image' and 'Managed numbers', and document 02, requests 2, 5, 9 and 10, in the octets of an image: where each field of an
 -- entry stands, what a valid image is, when numbers agree with it, and which entry serves a frame. The promises speak of an image in these
 -- words and not in those of the definitions that they are about, so that a definition which reads another octet or drops a rule breaks a
 -- promise. The numbers that differ from version to version are those of its shape (`Versions`).
 -- Assumes nothing.
 use Prim.Native.Nat.{ℕ, zero, suc, _+_, _*_, _/_, _%_, _^_, _≤_, _<_}
 use mathlib.Core.Path.{_≡_}
+use mathlib.Core.Logic.{_⊎_}
 use mathlib.Core.Bool.{Bool, true, false, cond, _&&_}
 use mathlib.Core.List.{List}
 use lib.Dec.{eqb}
@@ -35,7 +36,8 @@ positionAt image i = numberAt (2 + 4 * i + 2) 2 image
 
 -- ---- the body of entry i
 
--- where its octet j stands: at 2 + 4k + 52i + j in versions 1 and 2, at 6 + 4k + 22i + j in version 3
+-- where its octet j stands: at 2 + 4k + 52i + j in versions 1 and 2, at 6 + 4k + 22i + j in version 3, at 6 + 4k + 23i + j
+-- in version 4
 abbrev pub place : List ℕ → ℕ → ℕ → ℕ
 place image i j = shapeIn image .front + 4 * countIn image + shapeIn image .body * i + j
 
@@ -80,6 +82,10 @@ codeAt image i = numberAt (markPlace image i) 4 image
 
 abbrev pub wholeBodyAt : List ℕ → ℕ → List ℕ
 wholeBodyAt image i = part (place image i 0) (shapeIn image .body) image
+
+-- the desk that owns it: its last octet in version 4, and desk 1 in an older one
+abbrev pub ownerAt : List ℕ → ℕ → ℕ
+ownerAt image i = cond (shapeIn image .owners) (octet image (place image i 22)) 1
 
 -- whether its channel octet is a set of eight bits, the lowest for channel 0: from version 2 on, of kind 3
 abbrev pub isSet : List ℕ → ℕ → Bool
@@ -152,6 +158,7 @@ pub record BodyRules (image : List ℕ) (i : ℕ) : Type 0 where
   pub window : stateAt image i ≡ 2 → (1 ≤ windowAt image i) × (windowAt image i ≤ 1024)
   pub mask : kindAt image i ≡ 1 → octet image (place image i 15) ≡ 0
   pub mark : codeAt image i < 2 ^ 26
+  pub owner : (1 ≤ ownerAt image i) × (ownerAt image i ≤ 2)
 
 -- of a key part: the last entry of the contents, outside the count, is SPI 65,535 and its position; at most 64 keys, whose IDs rise; and an
 -- operational body names a key that is there and active
@@ -163,12 +170,12 @@ pub record KeyRules (image : List ℕ) : Type 0 where
   pub state : (j : ℕ) → j < keyCountIn image → stateOfKey image j ≤ 2
   pub active : (i : ℕ) → i < countIn image → stateAt image i ≡ 2 → KeyInState image (keyIdAt image i) 1
 
--- exactly 2 + 56k octets in versions 1 and 2, and 7 + 26k + 35q in version 3
+-- exactly 2 + 56k octets in versions 1 and 2, 7 + 26k + 35q in version 3, and 7 + 27k + 35q in version 4
 abbrev pub sizeIn : List ℕ → ℕ
 sizeIn image = partPlace image + cond (shapeIn image .keyPart) (1 + 35 * keyCountIn image) 0
 
 pub record ImageRules (image : List ℕ) : Type 0 where
-  pub version : (1 ≤ versionIn image) × (versionIn image ≤ 3)
+  pub version : (1 ≤ versionIn image) × (versionIn image ≤ 4)
   pub count : countIn image ≤ 32
   pub size : length image ≡ sizeIn image
   pub spi : (i : ℕ) → i < countIn image → (1 ≤ spiAt image i) × (spiAt image i ≤ 65534)
@@ -192,11 +199,17 @@ pub record InWindow (last window n : ℕ) : Type 0 where
   pub near : n ≤ last + window
   pub most : n ≤ 4294967295
 
--- ---- the entry that a frame asks for: that SPI, operational, and of that direction, kind, spacecraft, channel and (kind 2) MAP
+-- ---- the desk that makes a call: desk 0, the key office's, sees every entry, and another those that it owns
+
+abbrev pub Sees : List ℕ → ℕ → ℕ → Type 0
+Sees image desk i = (desk ≡ 0) ⊎ (ownerAt image i ≡ desk)
+
+-- ---- the entry that a frame asks for: that SPI, seen by the desk, operational, and of that direction, kind, spacecraft, channel and (kind 2) MAP
 
 pub record Serves (image : List ℕ) (direction : ℕ) (said : Said) (spi : ℕ) (frame : List ℕ) (i : ℕ) : Type 0 where
   pub entry : i < countIn image
   pub spis : spiAt image i ≡ spi
+  pub seen : Sees image (said .desk) i
   pub state : stateAt image i ≡ 2
   pub directions : directionAt image i ≡ direction
   pub kinds : kindAt image i ≡ said .kind

@@ -1,8 +1,8 @@
 -- Demand 3: in every run, under every association, numbers only rise. A run begins with a load of any image, and goes on with loads,
--- sendings and checks, with any arguments, any of which may be cut after any of its stores, after which only a load comes. Under each
--- association the numbers of frames handed out strictly rise, so none goes out twice; the numbers of data released strictly rise, so none
--- is released twice; a sent number exceeds the one before by at most 1 plus 64 for each load between them. The image stays valid, and only
--- marks of it change. It supposes only that the image's numbers are octets: a load may be handed any numbers.
+-- sendings and checks, by any desks and with any arguments, any of which may be cut after any of its stores, after which only a load comes.
+-- Under each association the numbers of frames handed out strictly rise, so none goes out twice; the numbers of data released strictly
+-- rise, so none is released twice; a sent number exceeds the one before by at most 1 plus 64 for each load between them. The image stays
+-- valid, and only marks of it change. It supposes only that the image's numbers are octets: a load may be handed any numbers.
 -- Assumes nothing.
 use Prim.Native.Nat.{ℕ, _+_, _*_, _≤_, _<_}
 use mathlib.Core.Path.{_≡_}

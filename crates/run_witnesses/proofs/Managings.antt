@@ -5,7 +5,8 @@ use mathlib.Core.List.{[], _∷_}
 use Rattle.association.specs.Search.{withSpi}
 use Rattle.command_form.specs.Channels.{channelsRight}
 use Rattle.procedures.specs.Procedures.{withTag, called}
-use Rattle.commands.specs.Commanding.{entryNamed, commandReply, commanded, commandedCut}
+use Rattle.addressing.specs.Addressing.{entryNamed}
+use Rattle.commands.specs.Commanding.{commandReply, commanded, commandedCut}
 use Rattle.promises.specs.Cases.{frameC, room, imageB, bare}
 use Rattle.promises.specs.Runs as frames
 use Rattle.promises.specs.Runs.{send, restart, sent}
@@ -21,17 +22,17 @@ sending = call (send (bare 1) 9 frameC room)
 pub run-manages :
     shownOf 0 imageB []
     (sending
-    ∷ command stop space
+    ∷ command 1 stop space
     ∷ sending
-    ∷ command expire space
-    ∷ command rekey space
-    ∷ commandCut (setWindow 1024) space 1 []
-    ∷ command (setWindow 1024) space
-    ∷ command start space
+    ∷ command 1 expire space
+    ∷ command 1 rekey space
+    ∷ commandCut 1 (setWindow 1024) space 1 []
+    ∷ command 1 (setWindow 1024) space
+    ∷ command 1 start space
     ∷ sending
-    ∷ command (setNumber 400) space
+    ∷ command 1 (setNumber 400) space
     ∷ sending
-    ∷ commandCut (setNumber 1000) space 3 []
+    ∷ commandCut 1 (setNumber 1000) space 3 []
     ∷ sending
     ∷ [])
     ≡ saw restart

@@ -8,7 +8,8 @@ use lib.ListN.{replicate}
 use Rattle.association.specs.Search.{withSpi}
 use Rattle.named_keys.specs.NamedKeys.{unserved}
 use Rattle.procedures.specs.Procedures.{withTag, called}
-use Rattle.commands.specs.Commanding.{entryNamed, commandReply, commanded, commandedCut}
+use Rattle.addressing.specs.Addressing.{entryNamed}
+use Rattle.commands.specs.Commanding.{commandReply, commanded, commandedCut}
 use Rattle.promises.specs.Cases.{frameC, room, bare}
 use Rattle.promises.specs.KeyedCases.{keyedBody, keyOf, sharedImage, ivOf}
 use Rattle.promises.specs.Runs as frames
@@ -27,7 +28,7 @@ sending spi = call (send (bare 1) spi frameC room)
 
 -- the key serves, so that its deactivation is refused, and both send on
 abbrev steps : List Step
-steps = sending 9 ∷ sending 10 ∷ command (forKey 0x03 5) space ∷ sending 9 ∷ call (frames.load []) ∷ sending 10 ∷ sending 9 ∷ []
+steps = sending 9 ∷ sending 10 ∷ command 0 (forKey 0x03 5) space ∷ sending 9 ∷ call (frames.load []) ∷ sending 10 ∷ sending 9 ∷ []
 
 pub run-shares :
     (shownOf 0 shared [] steps ≡ saw restart ∷ saw (sent 64) ∷ saw (sent 65) ∷ saw restart ∷ saw (sent 128) ∷ [])

@@ -3,13 +3,13 @@ mod securing;
 
 use admission::admit_sending;
 use judging::Admission;
+use judging::Said;
 use link::Outcome;
 use link::refused;
 use numbers::Numbers;
 use securing::secure_under;
 ghost use mathlib.Core.Path.{_≡_};
 ghost use Rattle.engines.specs.Lent.{Lent};
-ghost use Rattle.judging.specs.Said.{saying};
 ghost use Rattle.link.specs.Calls.{leaving, secured};
 
 // The secured frame of a clear one to the front of the output, under the association that the SPI names. `field` says whether the clear
@@ -19,16 +19,15 @@ pub fn secure_by(
     tables: &[u32],
     image: &mut [u8],
     numbers: Numbers,
-    kind: u8,
-    field: bool,
+    said: Said,
     spi: u16,
     frame: &[u8],
     output: &mut [u8],
 ) -> Outcome
     requires { ⌜ Lent (now tables) ⌝ }
-    ensures { λ r. ⌜ leaving r (now (image .exit)) (now (output .exit)) ≡ secured (now (image .entry)) (numbers .last) (saying kind field) spi (now (frame .entry)) (now (output .entry)) ⌝ }
+    ensures { λ r. ⌜ leaving r (now (image .exit)) (now (output .exit)) ≡ secured (now (image .entry)) (numbers .last) said spi (now (frame .entry)) (now (output .entry)) ⌝ }
 {
-    let admission = admit_sending(image, numbers, kind, field, spi, frame);
+    let admission = admit_sending(image, numbers, said, spi, frame);
     match admission {
         Admission::Refused(answer) => refused(answer, numbers),
         Admission::To(framing, entry) => {
@@ -41,13 +40,12 @@ pub fn secure_by(
 pub fn secure(
     image: &mut [u8],
     numbers: Numbers,
-    kind: u8,
-    field: bool,
+    said: Said,
     spi: u16,
     frame: &[u8],
     output: &mut [u8],
 ) -> Outcome
-    ensures { λ r. ⌜ leaving r (now (image .exit)) (now (output .exit)) ≡ secured (now (image .entry)) (numbers .last) (saying kind field) spi (now (frame .entry)) (now (output .entry)) ⌝ }
+    ensures { λ r. ⌜ leaving r (now (image .exit)) (now (output .exit)) ≡ secured (now (image .entry)) (numbers .last) said spi (now (frame .entry)) (now (output .entry)) ⌝ }
 {
-    secure_by(&[], image, numbers, kind, field, spi, frame, output)
+    secure_by(&[], image, numbers, said, spi, frame, output)
 }

@@ -14,7 +14,8 @@ use Rattle.octets.proofs.Alls.{and-left, and-right}
 use Rattle.octets.proofs.Sameness.{same-eq}
 use Rattle.image.specs.Image.{versionOf, bodyOf, validImage}
 use Rattle.numbers.specs.Numbers.{agrees}
-use Rattle.association.specs.Search.{servesChannel}
+use Rattle.bodies.specs.Body.{ownerOf}
+use Rattle.association.specs.Search.{servesChannel, sees}
 use Rattle.link.specs.Calls.{handed, secured, checked}
 use Rattle.judging.specs.Said.{Said, kindSaid}
 use Rattle.promises.specs.Cases.{allTrue, imageWith, oneNumber, room}
@@ -23,7 +24,7 @@ use Rattle.promises.specs.Images.{shapeIn, countIn, spiAt, serviceAt, kindAt, d
 use Rattle.promises.specs.RoundTrip.{Released}
 use Rattle.promises.proofs.RoundTrip.{round-trip}
 use Rattle.promises.proofs.Readings.{form}
-use Rattle.promises.proofs.Valids.{rules-kept, agreement, channel-served}
+use Rattle.promises.proofs.Valids.{rules-kept, agreement, channel-served, seen-kept}
 use Rattle.witness_frames.proofs.Computed.{areOctets, octets-of}
 
 -- one of several tests that are all true
@@ -51,7 +52,7 @@ module _ (here there : List ℕ) (said : Said) (frame : List ℕ) where
   sentOver = handed (secured here (oneNumber 63) said 9 frame room)
 
   -- what has to be computed: a valid image there, an answer 0 here, entries of SPI 9 that agree, IVs made alike where there is an IV, a number
-  -- in the window and room for the data
+  -- in the window, room for the data, and a desk that sees the entry
   abbrev tests : List Bool
   tests =
       areOctets there
@@ -75,6 +76,7 @@ module _ (here there : List ℕ) (said : Said) (frame : List ℕ) where
       ∷ eqb (windowAt there 0) 100
       ∷ eqb (numberOn (shapeIn here) (serviceAt here 0) said sentOver) 64
       ∷ leb (length (dataInClear said frame)) (length room)
+      ∷ sees (said .desk) (ownerOf (versionOf there) (bodyOf there 0))
       ∷ []
 
   abbrev pub meetsBetween : Bool
@@ -89,12 +91,13 @@ module _ (here there : List ℕ) (said : Said) (frame : List ℕ) where
       let number : numberOn (shapeIn here) (serviceAt here 0) said sentOver ≡ 64 =
       eqb-true (numberOn (shapeIn here) (serviceAt here 0) said sentOver) 64 (nth 19 tests e)
       in
-      round-trip .released here (oneNumber 63) said 9 frame room there (oneNumber 63) room 0 0 octets
+      round-trip .released here (oneNumber 63) said 9 frame room there (oneNumber 63) room 0 0 (said .desk) octets
       (eqb-true (secured here (oneNumber 63) said 9 frame room .answer) 0 (nth 3 tests e)) (ltb-true 0 (countIn here) (nth 4 tests e)) spi-here
       (record {
         valid = rules-kept there octets (nth 1 tests e);
         agree = agreement there (oneNumber 63) octets (nth 2 tests e);
         entry = ltb-true 0 (countIn there) (nth 5 tests e);
+        seen = seen-kept there (said .desk) 0 (nth 21 tests e);
         spi = eqb-true (spiAt there 0) 9 (nth 7 tests e) ∙ sym spi-here;
         service = eqb-true (serviceAt there 0) (serviceAt here 0) (nth 8 tests e);
         kind = eqb-true (kindAt there 0) (kindAt here 0) (nth 9 tests e);

@@ -1,6 +1,6 @@
 //! The ground secures a telecommand frame and the spacecraft checks it; a replay is refused; both restart and go on.
 
-use xistalvo::{check, command, load, secure, Kind, Numbers, Refusal};
+use xistalvo::{check, command, load, secure, Desk, Kind, Numbers, Refusal};
 
 const SPI: u16 = 9;
 const SEND: u8 = 1;
@@ -37,7 +37,7 @@ fn send(ground: &mut End, data: &[u8]) -> Result<Vec<u8>, Refusal> {
     let mut frame = vec![0, 27, 5 << 2, 5 + data.len() as u8 - 1, 0]; // the length field is the length less one
     frame.extend(data);
     let mut output = [0; 2048];
-    let done = secure(&mut ground.image, &mut ground.numbers, Kind::Tc, false, SPI, &frame, &mut output)?;
+    let done = secure(&mut ground.image, &mut ground.numbers, Desk::One, Kind::Tc, false, SPI, &frame, &mut output)?;
     let secured = output[..done.length].to_vec();
     let hex: String = secured.iter().map(|octet| format!(" {octet:02X}")).collect();
     println!("secure: 0, done; number {}, stores {}, frame{hex}", ground.numbers.last(0).unwrap_or(0), done.stores);
@@ -46,7 +46,7 @@ fn send(ground: &mut End, data: &[u8]) -> Result<Vec<u8>, Refusal> {
 
 fn receive(space: &mut End, what: &str, frame: &[u8]) {
     let mut output = [0; 2048];
-    match check(&mut space.image, &mut space.numbers, Kind::Tc, false, frame, &mut output) {
+    match check(&mut space.image, &mut space.numbers, Desk::One, Kind::Tc, false, frame, &mut output) {
         Ok(done) => {
             let data = String::from_utf8_lossy(&output[..done.length]);
             println!("{what}: 0, done; stores {}, data '{data}'", done.stores);
@@ -58,7 +58,7 @@ fn receive(space: &mut End, what: &str, frame: &[u8]) {
 /// A management command, here one that changes nothing. Over a link, its octets are what a check released.
 fn read_number(space: &mut End) -> Result<(), Refusal> {
     let mut output = [0; 17];
-    let done = command(&mut space.image, &mut space.numbers, &[0x10, 0, 2, 0, SPI as u8], &mut output)?;
+    let done = command(&mut space.image, &mut space.numbers, Desk::One, &[0x10, 0, 2, 0, SPI as u8], &mut output)?;
     let hex: String = output[..done.length].iter().map(|octet| format!(" {octet:02X}")).collect();
     println!("read number: 0, done; reply{hex}");
     Ok(())

@@ -12,6 +12,14 @@ impl Numbers {
     }
 }
 
+/// The desks: the key office's, which sees every association, and those of two laboratories, which see their own.
+#[derive(Clone, Copy, Debug, PartialEq, Eq)]
+pub enum Desk {
+    KeyOffice = 0,
+    One = 1,
+    Two = 2,
+}
+
 /// The kinds of frames.
 #[derive(Clone, Copy, Debug, PartialEq, Eq)]
 pub enum Kind {
@@ -41,6 +49,7 @@ pub enum Refusal {
     ValueRefused = 16,
     UnknownKey = 17,
     WrongKeyState = 18,
+    DeskRefused = 19,
 }
 
 impl Refusal {
@@ -69,6 +78,7 @@ impl Refusal {
             Refusal::ValueRefused => "value not allowed",
             Refusal::UnknownKey => "no key has the ID",
             Refusal::WrongKeyState => "state of the key, or its use, does not allow the command",
+            Refusal::DeskRefused => "no such desk, or not a command of that desk",
         }
     }
 }
@@ -88,6 +98,7 @@ mod interface {
             image_length: usize,
             numbers: *mut u32,
             numbers_length: usize,
+            desk: u8,
             kind: u8,
             check_field: u8,
             spi: u16,
@@ -101,6 +112,7 @@ mod interface {
             image_length: usize,
             numbers: *mut u32,
             numbers_length: usize,
+            desk: u8,
             kind: u8,
             check_field: u8,
             frame: *const u8,
@@ -113,6 +125,7 @@ mod interface {
             image_length: usize,
             numbers: *mut u32,
             numbers_length: usize,
+            desk: u8,
             command: *const u8,
             command_length: usize,
             output: *mut u8,
@@ -124,6 +137,7 @@ mod interface {
             image_length: usize,
             numbers: *const u32,
             numbers_length: usize,
+            desk: u8,
             command: *const u8,
             command_length: usize,
             output_length: usize,
@@ -153,6 +167,7 @@ fn unpack(result: u64) -> Result<Done, Refusal> {
         16 => Refusal::ValueRefused,
         17 => Refusal::UnknownKey,
         18 => Refusal::WrongKeyState,
+        19 => Refusal::DeskRefused,
         other => unreachable!("the module has no answer {other}"),
     };
     Err(refusal)
@@ -166,11 +181,12 @@ pub fn load(image: &[u8]) -> Result<Numbers, Refusal> {
     unpack(result).map(|_| numbers)
 }
 
-/// Secures a clear frame under the association with this SPI; the secured frame fills the start of the output, and ends in a check field if the
+/// Secures a clear frame for a desk, under the association with this SPI; the secured frame fills the start of the output, and ends in a check field if the
 /// clear one does.
 pub fn secure(
     image: &mut [u8],
     numbers: &mut Numbers,
+    desk: Desk,
     kind: Kind,
     check_field: bool,
     spi: u16,
@@ -184,6 +200,7 @@ pub fn secure(
             image.len(),
             numbers.0.as_mut_ptr(),
             numbers.0.len(),
+            desk as u8,
             kind as u8,
             check_field as u8,
             spi,
@@ -195,10 +212,11 @@ pub fn secure(
     })
 }
 
-/// Checks a secured frame; the clear data fills the start of the output.
+/// Checks a secured frame for a desk; the clear data fills the start of the output.
 pub fn check(
     image: &mut [u8],
     numbers: &mut Numbers,
+    desk: Desk,
     kind: Kind,
     check_field: bool,
     frame: &[u8],
@@ -211,6 +229,7 @@ pub fn check(
             image.len(),
             numbers.0.as_mut_ptr(),
             numbers.0.len(),
+            desk as u8,
             kind as u8,
             check_field as u8,
             frame.as_ptr(),
@@ -221,8 +240,8 @@ pub fn check(
     })
 }
 
-/// Carries out a management command: tag, length of the value in 2 octets, value. A reply fills the start of the output.
-pub fn command(image: &mut [u8], numbers: &mut Numbers, command: &[u8], output: &mut [u8]) -> Result<Done, Refusal> {
+/// Carries out a management command for a desk: tag, length of the value in 2 octets, value. A reply fills the start of the output.
+pub fn command(image: &mut [u8], numbers: &mut Numbers, desk: Desk, command: &[u8], output: &mut [u8]) -> Result<Done, Refusal> {
     // Safety: as for `secure`.
     unpack(unsafe {
         interface::xistalvo_command(
@@ -230,6 +249,7 @@ pub fn command(image: &mut [u8], numbers: &mut Numbers, command: &[u8], output: 
             image.len(),
             numbers.0.as_mut_ptr(),
             numbers.0.len(),
+            desk as u8,
             command.as_ptr(),
             command.len(),
             output.as_mut_ptr(),
@@ -245,7 +265,7 @@ pub fn raise(image: &mut [u8], entry: u8, number: u32, stores: u32) -> u32 {
 }
 
 /// The cut of a command with that much room for its reply: makes the first of its stores, and says how many it made.
-pub fn command_cut(image: &mut [u8], numbers: &Numbers, command: &[u8], room: usize, stores: u32) -> u32 {
+pub fn command_cut(image: &mut [u8], numbers: &Numbers, desk: Desk, command: &[u8], room: usize, stores: u32) -> u32 {
     // Safety: each range is lent with its length.
     unsafe {
         interface::xistalvo_command_cut(
@@ -253,6 +273,7 @@ pub fn command_cut(image: &mut [u8], numbers: &Numbers, command: &[u8], room: us
             image.len(),
             numbers.0.as_ptr(),
             numbers.0.len(),
+            desk as u8,
             command.as_ptr(),
             command.len(),
             room,

@@ -6,7 +6,6 @@ use lib.ListN.{length}
 use Rattle.judging.specs.Wants.{checkingWants}
 use Rattle.link.specs.Calls.{left, comparison, checkingReply, checkedAs, checked}
 use Rattle.judging.specs.Replies.{Reply}
-use Rattle.judging.specs.Said.{saying}
 use Rattle.judging.specs.Verdicts.{Admitted}
 use Rattle.judging.specs.declared.verdict.Admission.{Admission}
 use Rattle.link.proofs.Carried.{carried-refusal}
@@ -22,14 +21,13 @@ start c = c .before .before .before .before .before .before
 abbrev reply : tie.After-admit-receiving → Reply
 reply c =
     let g = start c .args in
-    let right = comparison (g .image .now) (g .numbers .last) (saying (g .kind) (g .field)) (g .frame .now) in
-    checkingReply right (g .image .now) (g .numbers .last) (saying (g .kind) (g .field)) (g .frame .now) (length (g .output .now))
+    let right = comparison (g .image .now) (g .numbers .last) (g .said) (g .frame .now) in
+    checkingReply right (g .image .now) (g .numbers .last) (g .said) (g .frame .now) (length (g .output .now))
 
 abbrev told : tie.After-admit-receiving → Admission → Type 0
 told c a =
     let g = start c .args in
-    let said = saying (g .kind) (g .field) in
-    Admitted a (g .image .now) (g .numbers .last) (checkingWants said (g .frame .now)) said true (g .frame .now)
+    Admitted a (g .image .now) (g .numbers .last) (checkingWants (g .said) (g .frame .now)) (g .said) true (g .frame .now)
 
 returns : tie.Need-returns
 unfolding checked checkedAs
@@ -38,7 +36,7 @@ returns c =
     let d = hit .before .before in
     let g = start d .args in
     carried-refusal (reply d) (g .image .now) (g .output .now) _ (g .numbers) _
-    (checking-refused (g .image .now) (g .numbers .last) (saying (g .kind) (g .field)) (g .frame .now) (length (g .output .now)) _
+    (checking-refused (g .image .now) (g .numbers .last) (g .said) (g .frame .now) (length (g .output .now)) _
     (subst (told d) (hit .admission .given .1) (d .admit-receiving .ensures)))
     (c .refused .ensures)
 
@@ -46,10 +44,9 @@ check-under-requires : tie.Need-check-under-requires
 check-under-requires c κs =
     let hit = c .before .before .before in
     let d = hit .before .before in
-    let g = start d .args in
-    let said = saying (g .kind) (g .field) in (
+    let g = start d .args in (
       start d .pre,
-      admitted-obeys (g .image .now) (g .numbers .last) (checkingWants said (g .frame .now)) said (g .frame .now) true _ _
+      admitted-obeys (g .image .now) (g .numbers .last) (checkingWants (g .said) (g .frame .now)) (g .said) (g .frame .now) true _ _
           (subst (told d) (hit .admission2 .given .1) (d .admit-receiving .ensures)),
     )
 
@@ -62,7 +59,7 @@ returns-2 c =
     let g = start d .args in
     went .check-under .ensures
     ∙ ap (λ (q : Reply). left q (g .image .now) (g .numbers .last) (g .output .now))
-    (checking-under (g .image .now) (g .numbers .last) (saying (g .kind) (g .field)) (g .frame .now) (length (g .output .now)) _ _
+    (checking-under (g .image .now) (g .numbers .last) (g .said) (g .frame .now) (length (g .output .now)) _ _
     (subst (told d) (hit .admission2 .given .1) (d .admit-receiving .ensures)))
 
 pub check-by-spec : {M : Type 1} → statement M

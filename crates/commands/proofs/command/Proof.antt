@@ -11,8 +11,9 @@ use Rattle.link.specs.Calls.{left}
 use Rattle.link.proofs.Carried.{carried-refusal}
 use Rattle.command_form.specs.Form.{frontLength}
 use Rattle.commands.specs.Commanding.{commandReply, commanded}
-use Rattle.commands.specs.Steps.{Addressed, replyUnder}
-use Rattle.commands.specs.declared.address.Address.{Address}
+use Rattle.addressing.specs.Steps.{Addressed}
+use Rattle.addressing.specs.declared.address.Address.{Address}
+use Rattle.commands.specs.Steps.{replyUnder}
 use Rattle.commands.proofs.Addressing.{command-refused, command-under}
 use borrow.Author.Needs.{needs}
 use Rattle.commands.proofs.command.Statement.{statement}
@@ -24,10 +25,10 @@ start c = c .before .before .before .before .before
 abbrev reply : tie.After-address-of → Reply
 reply c =
     let g = start c .args in
-    commandReply (g .image .now) (g .numbers .last) (g .command .now) (length (g .output .now))
+    commandReply (g .image .now) (g .numbers .last) (g .desk) (g .command .now) (length (g .output .now))
 
 abbrev told : tie.After-address-of → Address → Type 0
-told c a = let g = start c .args in Addressed a (g .image .now) (g .numbers .last) (g .command .now)
+told c a = let g = start c .args in Addressed a (g .image .now) (g .numbers .last) (g .desk) (g .command .now)
 
 long : (c : tie.After-addressed2) → frontLength ≤ length (start (c .before .before) .args .command .now)
 long c = let d = c .before .before in subst (told d) (c .addressed2 .given .1) (d .address-of .ensures) .long
@@ -45,7 +46,7 @@ returns c =
     let d = hit .before .before in
     let g = start d .args in
     carried-refusal (reply d) (g .image .now) (g .output .now) _ (g .numbers) _
-    (command-refused (g .image .now) (g .numbers .last) (g .command .now) (length (g .output .now)) _
+    (command-refused (g .image .now) (g .numbers .last) (g .desk) (g .command .now) (length (g .output .now)) _
     (subst (told d) (hit .addressed .given .1) (d .address-of .ensures)))
     (c .refused .ensures)
 
@@ -61,7 +62,7 @@ returns-2 c =
     went .command-under .ensures
     ∙ ap (λ (v : List ℕ). left (replyUnder (hit .addressed2 .given .0 .0) (g .image .now) (g .numbers .last) (hit .addressed2 .given .0 .1 .0) v (length (g .output .now))) (g .image .now) (g .numbers .last) (g .output .now)) value
     ∙ ap (λ (q : Reply). left q (g .image .now) (g .numbers .last) (g .output .now))
-    (command-under (g .image .now) (g .numbers .last) (g .command .now) (length (g .output .now)) _ _
+    (command-under (g .image .now) (g .numbers .last) (g .desk) (g .command .now) (length (g .output .now)) _ _
     (subst (told d) (hit .addressed2 .given .1) (d .address-of .ensures)))
 
 pub command-spec : {M : Type 1} → statement M

@@ -10,8 +10,9 @@ use Rattle.judging.specs.Replies.{Reply}
 use Rattle.link.specs.Calls.{cut}
 use Rattle.command_form.specs.Form.{frontLength}
 use Rattle.commands.specs.Commanding.{madeBy, commandReply}
-use Rattle.commands.specs.Steps.{Addressed, replyUnder}
-use Rattle.commands.specs.declared.address.Address.{Address}
+use Rattle.addressing.specs.Steps.{Addressed}
+use Rattle.addressing.specs.declared.address.Address.{Address}
+use Rattle.commands.specs.Steps.{replyUnder}
 use Rattle.commands.proofs.Addressing.{command-refused, command-under}
 use Rattle.commands.proofs.Cutting.{cut-refusal}
 use borrow.Author.Needs.{needs}
@@ -22,10 +23,10 @@ abbrev start : tie.After-address-of → tie.Start
 start c = c .before .before .before .before
 
 abbrev reply : tie.After-address-of → Reply
-reply c = let g = start c .args in commandReply (g .image .now) (g .numbers .last) (g .command .now) (g .room)
+reply c = let g = start c .args in commandReply (g .image .now) (g .numbers .last) (g .desk) (g .command .now) (g .room)
 
 abbrev told : tie.After-address-of → Address → Type 0
-told c a = let g = start c .args in Addressed a (g .image .now) (g .numbers .last) (g .command .now)
+told c a = let g = start c .args in Addressed a (g .image .now) (g .numbers .last) (g .desk) (g .command .now)
 
 long : (c : tie.After-addressed) → frontLength ≤ length (start (c .before .before) .args .command .now)
 long c = let d = c .before .before in subst (told d) (c .addressed .given .1) (d .address-of .ensures) .long
@@ -41,7 +42,7 @@ returns c =
     let d = c .before .before in
     let g = start d .args in
     cut-refusal (reply d) (g .image .now) (g .stores) _
-    (command-refused (g .image .now) (g .numbers .last) (g .command .now) (g .room) _
+    (command-refused (g .image .now) (g .numbers .last) (g .desk) (g .command .now) (g .room) _
     (subst (told d) (c .enum-told .given .1) (d .address-of .ensures)))
 
 returns-2 : tie.Need-returns-2
@@ -55,7 +56,7 @@ returns-2 c =
     let value : take (length (g .command .now) - frontLength) (drop frontLength (g .command .now)) ≡ drop frontLength (g .command .now) =
     take-all (length (g .command .now) - frontLength) (drop frontLength (g .command .now)) (simp length-drop (omega arith)) in
     let whole = ap (λ (v : List ℕ). replyUnder p (g .image .now) (g .numbers .last) e v (g .room)) value
-    ∙ command-under (g .image .now) (g .numbers .last) (g .command .now) (g .room) p e
+    ∙ command-under (g .image .now) (g .numbers .last) (g .desk) (g .command .now) (g .room) p e
     (subst (told d) (hit .addressed .given .1) (d .address-of .ensures)) in (
       went .cut-under .ensures .0 ∙ ap (λ (q : Reply). length (take (g .stores) (madeBy q))) whole,
       went .cut-under .ensures .1 ∙ ap (λ (q : Reply). cut q (g .image .now) (g .stores)) whole,

@@ -6,7 +6,6 @@ use lib.ListN.{length}
 use Rattle.judging.specs.Wants.{securingWants}
 use Rattle.link.specs.Calls.{left, securingReply, secured}
 use Rattle.judging.specs.Replies.{Reply}
-use Rattle.judging.specs.Said.{saying}
 use Rattle.judging.specs.Verdicts.{Admitted}
 use Rattle.judging.specs.declared.verdict.Admission.{Admission}
 use Rattle.link.proofs.Carried.{carried-refusal}
@@ -22,13 +21,12 @@ start c = c .before .before .before .before .before .before
 abbrev reply : tie.After-admit-sending → Reply
 reply c =
     let g = start c .args in
-    securingReply (g .image .now) (g .numbers .last) (saying (g .kind) (g .field)) (g .spi) (g .frame .now) (length (g .output .now))
+    securingReply (g .image .now) (g .numbers .last) (g .said) (g .spi) (g .frame .now) (length (g .output .now))
 
 abbrev told : tie.After-admit-sending → Admission → Type 0
 told c a =
     let g = start c .args in
-    let said = saying (g .kind) (g .field) in
-    Admitted a (g .image .now) (g .numbers .last) (securingWants said (g .spi) (g .frame .now)) said false (g .frame .now)
+    Admitted a (g .image .now) (g .numbers .last) (securingWants (g .said) (g .spi) (g .frame .now)) (g .said) false (g .frame .now)
 
 returns : tie.Need-returns
 unfolding secured
@@ -37,7 +35,7 @@ returns c =
     let d = hit .before .before in
     let g = start d .args in
     carried-refusal (reply d) (g .image .now) (g .output .now) _ (g .numbers) _
-    (securing-refused (g .image .now) (g .numbers .last) (saying (g .kind) (g .field)) (g .spi) (g .frame .now) (length (g .output .now)) _
+    (securing-refused (g .image .now) (g .numbers .last) (g .said) (g .spi) (g .frame .now) (length (g .output .now)) _
     (subst (told d) (hit .admission .given .1) (d .admit-sending .ensures)))
     (c .refused .ensures)
 
@@ -45,10 +43,9 @@ secure-under-requires : tie.Need-secure-under-requires
 secure-under-requires c κs =
     let hit = c .before .before .before in
     let d = hit .before .before in
-    let g = start d .args in
-    let said = saying (g .kind) (g .field) in (
+    let g = start d .args in (
       start d .pre,
-      admitted-obeys (g .image .now) (g .numbers .last) (securingWants said (g .spi) (g .frame .now)) said (g .frame .now) false _ _
+      admitted-obeys (g .image .now) (g .numbers .last) (securingWants (g .said) (g .spi) (g .frame .now)) (g .said) (g .frame .now) false _ _
           (subst (told d) (hit .admission2 .given .1) (d .admit-sending .ensures)),
     )
 
@@ -61,7 +58,7 @@ returns-2 c =
     let g = start d .args in
     went .secure-under .ensures
     ∙ ap (λ (q : Reply). left q (g .image .now) (g .numbers .last) (g .output .now))
-    (securing-under (g .image .now) (g .numbers .last) (saying (g .kind) (g .field)) (g .spi) (g .frame .now) (length (g .output .now)) _ _
+    (securing-under (g .image .now) (g .numbers .last) (g .said) (g .spi) (g .frame .now) (length (g .output .now)) _ _
     (subst (told d) (hit .admission2 .given .1) (d .admit-sending .ensures)))
 
 pub secure-by-spec : {M : Type 1} → statement M

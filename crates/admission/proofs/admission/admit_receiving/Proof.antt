@@ -6,7 +6,6 @@ use Prim.Native.Nat.{ℕ}
 use Rattle.kinds.specs.Kinds.{kindBehind}
 use Rattle.kinds.specs.declared.kinds.Named.{Named}
 use Rattle.protection.specs.Protection.{spiIn}
-use Rattle.judging.specs.Said.{saying}
 use Rattle.judging.specs.Verdicts.{Admitted}
 use Rattle.judging.specs.Wants.{receiving, wanted}
 use borrow.Author.Needs.{needs}
@@ -17,9 +16,8 @@ returns : tie.Need-returns
 returns c =
     let on = c .before in
     let g = on .before .before .before .before .args in
-    let said = saying (g .kind) (g .field) in
     subst
-    (λ (x : ℕ). Admitted (c .admit .result) (g .image .now) (g .numbers .last) (wanted x receiving said (g .frame .now)) said true (g .frame .now))
+    (λ (x : ℕ). Admitted (c .admit .result) (g .image .now) (g .numbers .last) (wanted x receiving (g .said) (g .frame .now)) (g .said) true (g .frame .now))
     (on .spi-on .ensures ∙ ap (λ (n : Named). spiIn (kindBehind n) (g .frame .now)) (on .before .kind-of .ensures)) (c .admit .ensures)
 
 pub admit-receiving-spec : {M : Type 1} → statement M

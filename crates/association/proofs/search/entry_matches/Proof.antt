@@ -1,4 +1,4 @@
--- `entry_matches` is right because it joins the tests that the definition joins, on the entry's body.
+-- `entry_matches` is right because it joins the tests that the definition joins, on the entry and on its body.
 -- Assumes nothing.
 use Rattle.image.specs.Image.{bodyOf}
 use Rattle.association.specs.Search.{matches}
@@ -13,7 +13,7 @@ returns c =
       c .body-serves .ensures,
       c .before .body-at .ensures .0,
       c .before .before .version-of .ensures,
-      c .before .before .before .before .spi-of .ensures,
+      c .before .before .before .has-spi .ensures,
     )
 
 pub entry-matches-spec : {M : Type 1} → statement M

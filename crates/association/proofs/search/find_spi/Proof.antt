@@ -1,22 +1,20 @@
--- `find_spi` is right because a turn that goes on has passed an entry with another SPI, so what is left to find is found behind it.
+-- `find_spi` is right because a turn that goes on has passed an entry that has not the SPI for that desk, so what is left to find is found behind it.
 -- Assumes nothing.
 use mathlib.Core.Path.{_≡_, sym, _∙_}
 use Prim.Native.Nat.{_-_, _≤_}
 use borrow.Author.Needs.{needs}
 use native.Mathlib.Omega.{arith}
-use borrow.Author.Tests.{eq-eqb, ne-eqb}
-use lib.Dec.{eqb}
-use Rattle.image.specs.Image.{countOf, spiOf}
-use Rattle.association.specs.Search.{firstFrom, withSpi}
+use Rattle.image.specs.Image.{countOf}
+use Rattle.association.specs.Search.{hasSpi, firstFrom, withSpi}
 use Rattle.association.proofs.Finding.{first-here, first-next, first-none}
 use Rattle.association.proofs.search.find_spi.Statement.{statement}
 use Rattle.association.proofs.search.find_spi.Tie as tie
 
 abbrev Inv-loop : tie.InvT-loop
-Inv-loop image spi count i₀ i = (i ≤ count) × (withSpi image spi ≡ firstFrom i (count - i) (λ k. eqb (spiOf image k) spi))
+Inv-loop image desk spi count i₀ i = (i ≤ count) × (withSpi image desk spi ≡ firstFrom i (count - i) (hasSpi image desk spi))
 
 abbrev μ-loop : tie.MeasureT-loop
-μ-loop image spi count i₀ i = count - i
+μ-loop image desk spi count i₀ i = count - i
 
 loop-holds : tie.Need-loop-holds Inv-loop μ-loop
 unfolding withSpi
@@ -27,7 +25,7 @@ loop-holds c =
 loop-again : tie.Need-loop-again Inv-loop μ-loop
 loop-again c =
     let at-loop = c .before .before .before .loop in
-    (search needs, at-loop .inv .1 ∙ first-next _ _ _ (search needs) (ne-eqb _ _ (λ e. c .if2 .left (c .before .spi-of .ensures ∙ e))))
+    (search needs, at-loop .inv .1 ∙ first-next _ _ _ (search needs) (sym (c .before .has-spi .ensures) ∙ c .if2 .left))
 
 returns : tie.Need-returns Inv-loop μ-loop
 returns c = sym (c .before .loop .inv .1 ∙ first-none _ _ _ (c .if1 .taken))
@@ -35,7 +33,7 @@ returns c = sym (c .before .loop .inv .1 ∙ first-none _ _ _ (c .if1 .taken))
 returns-2 : tie.Need-returns-2 Inv-loop μ-loop
 returns-2 c =
     let at-loop = c .before .before .before .loop in
-    sym (at-loop .inv .1 ∙ first-here _ _ _ (search needs) (eq-eqb _ _ (sym (c .before .spi-of .ensures) ∙ c .if2 .taken)))
+    sym (at-loop .inv .1 ∙ first-here _ _ _ (search needs) (sym (c .before .has-spi .ensures) ∙ c .if2 .taken))
 
 pub find-spi-spec : {M : Type 1} → statement M
 find-spi-spec =

@@ -9,16 +9,17 @@ returns : tie.Need-returns
 unfolding bodyOk
 returns c =
     rw (
-      c .mark-ok .ensures,
-      c .before .window-ok .ensures,
-      c .before .before .kind-ok .ensures,
-      c .before .before .before .state-ok .ensures,
-      c .before .before .before .before .direction-ok .ensures,
-      c .before .before .before .before .before .service-ok .ensures,
+      c .owner-ok .ensures,
+      c .before .mark-ok .ensures,
+      c .before .before .window-ok .ensures,
+      c .before .before .before .kind-ok .ensures,
+      c .before .before .before .before .state-ok .ensures,
+      c .before .before .before .before .before .direction-ok .ensures,
+      c .before .before .before .before .before .before .service-ok .ensures,
     )
 
 pub body-ok-spec : {M : Type 1} → statement M
 body-ok-spec =
     tie.close
     (tie.spec (λ c κs. search needs) (λ c κs. search needs) (λ c κs. search needs) (λ c κs. search needs) (λ c κs. search needs)
-    (λ c κs. search needs) returns)
+    (λ c κs. search needs) (λ c κs. search needs) returns)

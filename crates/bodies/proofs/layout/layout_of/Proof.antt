@@ -20,9 +20,18 @@ returns-2 c =
 returns-3 : tie.Need-returns-3
 unfolding layoutOf
 returns-3 c =
-    let e = ne-eqb _ _ (c .before .if1 .left) in
-    let f = ne-eqb _ _ (c .if2 .left) in
-    (simp (e, f), simp (e, f) at (lawful (c .before .before .args .version)))
+    let d = ne-eqb _ _ (c .before .before .if1 .left) in
+    let e = ne-eqb _ _ (c .before .if2 .left) in
+    let f = eq-eqb _ _ (c .if3 .taken) in
+    (simp (d, e, f), simp (d, e, f) at (lawful (c .before .before .before .args .version)))
+
+returns-4 : tie.Need-returns-4
+unfolding layoutOf
+returns-4 c =
+    let d = ne-eqb _ _ (c .before .before .if1 .left) in
+    let e = ne-eqb _ _ (c .before .if2 .left) in
+    let f = ne-eqb _ _ (c .if3 .left) in
+    (simp (d, e, f), simp (d, e, f) at (lawful (c .before .before .before .args .version)))
 
 pub layout-of-spec : {M : Type 1} → statement M
-layout-of-spec = tie.close (tie.spec returns returns-2 returns-3)
+layout-of-spec = tie.close (tie.spec returns returns-2 returns-3 returns-4)

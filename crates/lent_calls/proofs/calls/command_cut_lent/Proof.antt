@@ -22,9 +22,9 @@ returns-2 c =
     record {
       counted = λ e. (
         done .command-cut .ensures .0
-            ∙ ap (λ (n : List ℕ). length (take (g .stores) (madeBy (commandReply (g .image .now) n (g .command .now) (g .room))))) (told .numbers-in .ensures),
+            ∙ ap (λ (n : List ℕ). length (take (g .stores) (madeBy (commandReply (g .image .now) n (g .desk) (g .command .now) (g .room))))) (told .numbers-in .ensures),
         done .command-cut .ensures .1
-            ∙ ap (λ (n : List ℕ). cut (commandReply (g .image .now) n (g .command .now) (g .room)) (g .image .now) (g .stores)) (told .numbers-in .ensures),
+            ∙ ap (λ (n : List ℕ). cut (commandReply (g .image .now) n (g .desk) (g .command .now) (g .room)) (g .image .now) (g .stores)) (told .numbers-in .ensures),
       );
       miscounted = λ n. absurd (n (other .if1 .left));
     }

@@ -5,10 +5,10 @@ use native.Mathlib.Omega.{arith}
 use Rattle.judging.specs.declared.answers.Answer.the-variants as answer
 use Rattle.judging.proofs.Admitting.{refuses}
 use Rattle.judging.proofs.Standings.{broken, disagreeing, standing-well}
-use Rattle.commands.proofs.Addressing.{by-1, by-2}
+use Rattle.addressing.proofs.Passing.{by-1, by-2}
 use borrow.Author.Needs.{needs}
-use Rattle.commands.proofs.address.address_of.Statement.{statement}
-use Rattle.commands.proofs.address.address_of.Tie as tie
+use Rattle.addressing.proofs.address.address_of.Statement.{statement}
+use Rattle.addressing.proofs.address.address_of.Tie as tie
 
 abbrev start : tie.After-test-standing → tie.Start
 start c = c .before .before .before
@@ -24,7 +24,7 @@ returns c =
     let d = c .before .before in
     let g = start d .args in
     refuses answer.BadImage _ 1 refl (omega arith)
-    (by-1 (g .image .now) (g .numbers .last) (g .command .now)
+    (by-1 (g .image .now) (g .numbers .last) (g .desk) (g .command .now)
     (broken (g .image .now) (g .numbers .last) (sym (d .test-standing .ensures) ∙ c .enum-told .given .1)))
 
 returns-2 : tie.Need-returns-2
@@ -32,7 +32,7 @@ returns-2 c =
     let d = c .before .before in
     let g = start d .args in
     let w = disagreeing (g .image .now) (g .numbers .last) (sym (d .test-standing .ensures) ∙ c .enum-told2 .given .1) in
-    refuses answer.BadMarks _ 2 refl (omega arith) (by-2 (g .image .now) (g .numbers .last) (g .command .now) (w .0) (w .1))
+    refuses answer.BadMarks _ 2 refl (omega arith) (by-2 (g .image .now) (g .numbers .last) (g .desk) (g .command .now) (w .0) (w .1))
 
 pub address-of-spec : {M : Type 1} → statement M
 address-of-spec =

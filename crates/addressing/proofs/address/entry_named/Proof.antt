@@ -1,10 +1,10 @@
 -- `entry_named` is right because a procedure that names an association is searched by its SPI.
 -- Assumes nothing.
 use mathlib.Core.Path.{sym, _∙_}
-use Rattle.commands.specs.Commanding.{entryNamed}
+use Rattle.addressing.specs.Addressing.{entryNamed}
 use borrow.Author.Needs.{needs}
-use Rattle.commands.proofs.address.entry_named.Statement.{statement}
-use Rattle.commands.proofs.address.entry_named.Tie as tie
+use Rattle.addressing.proofs.address.entry_named.Statement.{statement}
+use Rattle.addressing.proofs.address.entry_named.Tie as tie
 
 returns : tie.Need-returns
 unfolding entryNamed

@@ -1,0 +1,2 @@
+pub mod Addressing
+pub mod Steps
