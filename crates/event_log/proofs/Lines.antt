@@ -6,11 +6,10 @@ use Prim.Native.Nat.{ℕ, zero, suc, _+_, _*_, _≤_, _<_}
 use native.Mathlib.Numerals.{add-one}
 use native.Mathlib.Omega.{arith}
 use lib.ListN.{length, take, drop, length-append, take-append-drop}
-use lib.Seq.{take-at, drop-drop, drop-append-add, length-take-le}
+use lib.Seq.{drop-drop, drop-append-add, length-take-le}
 use Rattle.octets.specs.Numbers.{bytes}
 use Rattle.octets.specs.Output.{written, fronted}
 use Rattle.octets.proofs.Filling.{length-written, with-room, without-room, behind}
-use Rattle.octets.proofs.Numbers.{length-bytes}
 use Rattle.event_log.specs.Events.{Event, eventLine, dumpValue, dumpReply}
 use Rattle.event_log.specs.Held.{eventAt, eventsIn, linesBehind}
 
