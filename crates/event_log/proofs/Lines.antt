@@ -27,7 +27,7 @@ events-more i s = ap (λ (k : ℕ). eventsIn k s) (sym (add-one i))
 length-value : (es : List Event) → length (dumpValue es) ≡ 5 * length es
 unfolding dumpValue
 length-value [] = refl
-length-value (e ∷ es) = let rest = length-value es in omega (arith, rest)
+length-value (e ∷ es) = simp (length-append, length-value es) (omega arith)
 
 value-more : (es : List Event) (e : Event) → dumpValue (es ++ (e ∷ [])) ≡ dumpValue es ++ eventLine e
 unfolding dumpValue
