@@ -15,7 +15,8 @@ const DESKS: u8 = 3;
 
 const REPORT: usize = 4;
 
-// The reports of the desks, one behind the other.
+// The reports of the desks, one behind the other. A caller who lends them has them laid out as C does.
+#[repr(C)]
 pub struct Reports {
     pub octets: [u8; 12],
 }
