@@ -10,7 +10,7 @@ use borrow.Author.Tests.{lt-ltb, le-ltb}
 use lib.Dec.{ltb}
 use lib.ListN.{length, take, length-append}
 use lib.Seq.{take-all, take-append-le, length-take-le}
-use Rattle.event_log.specs.Counts.{since, Counted}
+use Rattle.event_log.specs.Counts.{since, KeepsCount}
 use Rattle.event_log.specs.Events.{Event, Running, entering, Act, enters, erases, running}
 
 -- ---- a count that stays at m
@@ -79,7 +79,7 @@ all-by es (no g) (no k) small =
     let most : upTo 4294967295 (length es - 256) ≡ 4294967295 = above 4294967295 (length es - 256) (omega arith) in
     absurd (omega arith)
 
-keeping-counted : (es : List Event) → Counted (keeping es) es
+keeping-counted : (es : List Event) → KeepsCount (keeping es) es
 keeping-counted es =
     record {
       first = refl;
@@ -87,5 +87,5 @@ keeping-counted es =
       stays = λ h. above 4294967295 (length es - 256) (omega arith);
     }
 
-pub counted : (acts : List Act) → Counted (running (keeping []) acts) (since [] acts)
+pub counted : (acts : List Act) → KeepsCount (running (keeping []) acts) (since [] acts)
 counted acts = rw (running-keeping [] acts) (keeping-counted (since [] acts))

@@ -13,7 +13,7 @@ use lib.Seq.{getD-set-same, getD-set-other}
 use Rattle.octets.specs.Lists.{octet}
 use Rattle.event_log.specs.Counts.{Counts}
 use Rattle.event_log.specs.Events.{Event, Running, nothing, entering, Act, enters, erases, running}
-use Rattle.event_log.specs.Held.{eventsIn, countIn, held, eventPut, enteredIn, freshLog, ranIn}
+use Rattle.event_log.specs.Held.{eventsIn, keptCount, held, eventPut, enteredIn, freshLog, ranIn}
 use Rattle.event_log.specs.declared.events.Log.{Log}
 use Rattle.event_log.proofs.Counting.{counted}
 use Rattle.event_log.proofs.Lines.{length-events, events-more}
@@ -69,14 +69,14 @@ events-put s n e h =
 
 -- ---- one event
 
-few : (n : ℕ) → n ≤ 256 → countIn n ≡ n
+few : (n : ℕ) → n ≤ 256 → keptCount n ≡ n
 few n h = few-by (decLt n 256)
   where
-    few-by : Dec (n < 256) → countIn n ≡ n
+    few-by : Dec (n < 256) → keptCount n ≡ n
     few-by (yes k) = rw (lt-ltb n 256 k)
     few-by (no g) = let e : 256 ≡ n = omega arith in rw (le-ltb n 256 (omega arith)) e
 
-many : (n : ℕ) → 256 ≤ n → countIn n ≡ 256
+many : (n : ℕ) → 256 ≤ n → keptCount n ≡ 256
 many n h = rw (le-ltb n 256 h)
 
 entering-room : (r : Running) (e : Event) → length (r .kept) < 256 → entering r e ≡ record { kept = r .kept ++ (e ∷ []); dropped = r .dropped }
@@ -103,18 +103,18 @@ module _ (l : Log) (e : Event) (long : length (l .events) ≡ 768) where
   staying g k = rw (le-ltb (l .kept) 256 g, le-ltb (l .dropped) 4294967295 k)
 
   full : 256 ≤ l .kept → length (held l .kept) ≡ 256
-  full g = length-events (countIn (l .kept)) (l .events) ∙ many (l .kept) g
+  full g = length-events (keptCount (l .kept)) (l .events) ∙ many (l .kept) g
 
   held-by : Dec (l .kept < 256) → Dec (l .dropped < 4294967295) → held (enteredIn l e) ≡ entering (held l) e
   held-by (yes h) d =
-      let count : countIn (l .kept) ≡ l .kept = few (l .kept) (omega arith) in
-      let one : eventsIn (countIn (l .kept + 1)) (eventPut (l .events) (3 * l .kept) e) ≡ held l .kept ++ (e ∷ []) =
+      let count : keptCount (l .kept) ≡ l .kept = few (l .kept) (omega arith) in
+      let one : eventsIn (keptCount (l .kept + 1)) (eventPut (l .events) (3 * l .kept) e) ≡ held l .kept ++ (e ∷ []) =
       ap (λ (n : ℕ). eventsIn n (eventPut (l .events) (3 * l .kept) e)) (few (l .kept + 1) (omega arith))
       ∙ events-put (l .events) (l .kept) e (omega arith)
       ∙ ap (λ (n : ℕ). eventsIn n (l .events) ++ (e ∷ [])) (sym count) in
       ap held (room h)
       ∙ (λ i. record { kept = one i; dropped = l .dropped })
-      ∙ sym (entering-room (held l) e (omega (arith, length-events (countIn (l .kept)) (l .events))))
+      ∙ sym (entering-room (held l) e (omega (arith, length-events (keptCount (l .kept)) (l .events))))
   held-by (no g) (yes k) =
       ap held (dropping (omega arith) k)
       ∙ sym (entering-full (held l) e (full (omega arith)) ∙ rw (lt-ltb (l .dropped) 4294967295 k))

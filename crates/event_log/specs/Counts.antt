@@ -15,11 +15,11 @@ since es (enters e ∷ more) = since (es ++ (e ∷ [])) more
 since es (erases ∷ more) = since [] more
 
 -- a log after the events es and no others
-pub record Counted (l : Running) (es : List Event) : Type 0 where
+pub record KeepsCount (l : Running) (es : List Event) : Type 0 where
   pub first : l .kept ≡ take 256 es
   pub all : l .dropped < 4294967295 → length (l .kept) + l .dropped ≡ length es
   pub stays : 256 + 4294967295 ≤ length es → l .dropped ≡ 4294967295
 
 -- a record that was fresh, after any acts
 abbrev pub Counts : Type 0
-Counts = (acts : List Act) → Counted (held (ranIn freshLog acts)) (since [] acts)
+Counts = (acts : List Act) → KeepsCount (held (ranIn freshLog acts)) (since [] acts)

@@ -27,11 +27,11 @@ eventsIn zero s = []
 eventsIn (suc n) s = eventsIn n s ++ (eventAt s n ∷ [])
 
 -- a count above 256 is read as 256
-abbrev pub countIn : ℕ → ℕ
-countIn kept = cond (ltb kept mostEvents) kept mostEvents
+abbrev pub keptCount : ℕ → ℕ
+keptCount kept = cond (ltb kept mostEvents) kept mostEvents
 
 abbrev pub held : Log → Running
-held l = record { kept = eventsIn (countIn (l .kept)) (l .events); dropped = l .dropped }
+held l = record { kept = eventsIn (keptCount (l .kept)) (l .events); dropped = l .dropped }
 
 -- ---- the record after an event, and after an erase
 

@@ -12,7 +12,7 @@ ghost use lib.ListN.{length};
 ghost use Rattle.octets.specs.Numbers.{bytes};
 ghost use Rattle.octets.specs.Output.{fronted};
 ghost use Rattle.event_log.specs.Events.{eventLine, dumpReply, eraseReply};
-ghost use Rattle.event_log.specs.Held.{eventAt, countIn, held, linesBehind};
+ghost use Rattle.event_log.specs.Held.{eventAt, keptCount, held, linesBehind};
 
 // Tag and length field, and the octets of an event in a dump.
 const FRONT: usize = 3;
@@ -23,8 +23,8 @@ const LINE: usize = 5;
 pub const ERASE_REPLY: usize = 7;
 
 // How many events a record keeps.
-fn count_of(kept: u32) -> usize
-    ensures { λ r. ⌜ (r ≡ countIn kept) × (r ≤ 256) ⌝ }
+fn kept_count(kept: u32) -> usize
+    ensures { λ r. ⌜ (r ≡ keptCount kept) × (r ≤ 256) ⌝ }
 {
     if kept < MOST_EVENTS {
         return kept as usize;
@@ -70,7 +70,7 @@ pub fn dump_size(log: Log) -> usize
     ensures { λ r. ⌜ r ≡ length (dumpReply (held log .kept)) ⌝ }
 {
     let kept = log.kept;
-    FRONT + LINE * count_of(kept)
+    FRONT + LINE * kept_count(kept)
 }
 
 // The reply to a dump to the front of the output, whose rest stays; where there is no room for it, nothing is written.
@@ -78,7 +78,7 @@ pub fn write_dump(log: Log, output: &mut [u8])
     ensures { λ _. ⌜ now (output .exit) ≡ fronted (dumpReply (held log .kept)) (now (output .entry)) ⌝ }
 {
     let kept = log.kept;
-    let n = count_of(kept);
+    let n = kept_count(kept);
     if FRONT + LINE * n <= output.len() {
         let events = log.events;
         put(&front_of(n), output);

@@ -5,7 +5,7 @@ use mathlib.Core.Bool.{Bool, true, false, cond}
 use Prim.Native.Nat.{ℕ, _*_}
 use lib.ListN.{length}
 use Rattle.octets.specs.Lists.{part}
-use Rattle.reports.specs.Desks.{reportOf, afterReset}
+use Rattle.reports.specs.Desks.{deskReport, afterReset}
 use Rattle.reports.specs.Report.{renewing, resetting}
 use Rattle.reports.proofs.Telling.{others-stay}
 use Rattle.notes.specs.Noting.{notedCheck, alarmResetTag, isDone, notedCommand}
@@ -15,11 +15,11 @@ module _ (n : Notes) (desk other : ℕ) (long : length (n .reports .octets) ≡ 
   pub check-apart : (answer spi number : ℕ)
       → part (4 * other) 4 (notedCheck n desk answer spi number .reports .octets) ≡ part (4 * other) 4 (n .reports .octets)
   check-apart answer spi number =
-      others-stay (n .reports .octets) desk other (renewing answer spi number (reportOf (n .reports .octets) desk)) long differ
+      others-stay (n .reports .octets) desk other (renewing answer spi number (deskReport (n .reports .octets) desk)) long differ
 
   reset-apart : (done : Bool)
       → part (4 * other) 4 (cond done (afterReset (n .reports .octets) desk) (n .reports .octets)) ≡ part (4 * other) 4 (n .reports .octets)
-  reset-apart true = others-stay (n .reports .octets) desk other (resetting (reportOf (n .reports .octets) desk)) long differ
+  reset-apart true = others-stay (n .reports .octets) desk other (resetting (deskReport (n .reports .octets) desk)) long differ
   reset-apart false = refl
 
   pub command-apart : (tag answer : ℕ)

@@ -4,36 +4,36 @@
 use Prim.Native.Nat.{ℕ}
 use mathlib.Core.Bool.{cond}
 use mathlib.Core.List.{List, [], _∷_, _++_}
-use Rattle.event_log.specs.Counts.{Counted}
+use Rattle.event_log.specs.Counts.{KeepsCount}
 use Rattle.event_log.specs.Events.{Event}
 use Rattle.event_log.specs.Held.{event, held}
 use Rattle.notes.specs.Noting.{freshNotes, notedCheck, eraseTag, forLog, isDone, notedCommand}
 use Rattle.notes.specs.declared.Notes.{Notes}
 
 -- a call with its answer: a check by a desk, with the frame's SPI and the number that is told; a command by a desk, with its first octet
-pub data Call : Type 0 where
-  checks : ℕ → ℕ → ℕ → ℕ → Call
-  commands : ℕ → ℕ → ℕ → Call
+pub data Answered : Type 0 where
+  checks : ℕ → ℕ → ℕ → ℕ → Answered
+  commands : ℕ → ℕ → ℕ → Answered
 
-abbrev pub noted : Notes → Call → Notes
+abbrev pub noted : Notes → Answered → Notes
 noted n (checks desk answer spi number) = notedCheck n desk answer spi number
 noted n (commands desk tag answer) = notedCommand n desk tag answer
 
 -- the notes after a list of calls, the first of them first
-abbrev pub notedAll : Notes → List Call → Notes
+abbrev pub notedAll : Notes → List Answered → Notes
 notedAll n [] = n
 notedAll n (call ∷ more) = notedAll (noted n call) more
 
 -- the events since the last done erase, where es came before the call
-abbrev pub eventsAfter : List Event → Call → List Event
+abbrev pub eventsAfter : List Event → Answered → List Event
 eventsAfter es (checks desk answer spi number) = es ++ (event desk 0 answer ∷ [])
 eventsAfter es (commands desk tag answer) =
     cond (forLog tag) (cond (isDone eraseTag tag answer) [] es) (es ++ (event desk tag answer ∷ []))
 
-abbrev pub eventsOf : List Event → List Call → List Event
+abbrev pub eventsOf : List Event → List Answered → List Event
 eventsOf es [] = es
 eventsOf es (call ∷ more) = eventsOf (eventsAfter es call) more
 
 -- notes that were fresh, after any calls: the log has kept the first 256 of these events, and kept plus dropped are all of them
-abbrev pub CallsCounted : Type 0
-CallsCounted = (calls : List Call) → Counted (held (notedAll freshNotes calls .log)) (eventsOf [] calls)
+abbrev pub CallsKeepCount : Type 0
+CallsKeepCount = (calls : List Answered) → KeepsCount (held (notedAll freshNotes calls .log)) (eventsOf [] calls)

@@ -14,7 +14,7 @@ use Rattle.octets.specs.Numbers.{bytes, numberAt}
 use Rattle.octets.proofs.Parts.{tab-self, octet-part}
 use Rattle.octets.proofs.Reading.{numberAt-two}
 use Rattle.octets.proofs.Rules.{tab-ext}
-use Rattle.reports.specs.Desks.{reportOf, withReport, afterCheck, afterReset}
+use Rattle.reports.specs.Desks.{deskReport, withReport, afterCheck, afterReset}
 use Rattle.reports.specs.Rows.{telling, Renewed, Reset}
 use Rattle.reports.specs.Report.{flag, odd, firstOctet, laid, numberTold, unread, renewing, resetting}
 use Rattle.reports.specs.declared.report.Report.{Report}
@@ -63,8 +63,8 @@ module _ (s : List ℕ) (d : ℕ) (h : d < 3) (l : length s ≡ 12) where
   first = octet-part (4 * d) 4 s 0 (omega arith) ∙ ap (octet s) (add-zero (4 * d))
 
   done-by : (spi number : ℕ)
-      → laid (renewing 0 spi number (reportOf s d)) ≡ telling (0xC0 + 8 * (octet (part (4 * d) 4 s) 0 / 8 % 2)) spi number
-  unfolding renewing reportOf laid
+      → laid (renewing 0 spi number (deskReport s d)) ≡ telling (0xC0 + 8 * (octet (part (4 * d) 4 s) 0 / 8 % 2)) spi number
+  unfolding renewing deskReport laid
   done-by spi number =
       let bit = octet s (4 * d) / 8 % 2 in
       let none : 0xC0 + 8 * bit + 4 * 0 + 2 * 0 + 0 ≡ 0xC0 + 8 * bit = omega arith in
@@ -92,19 +92,19 @@ module _ (s : List ℕ) (d : ℕ) (h : d < 3) (l : length s ≡ 12) where
 
     -- a report whose flags are kept
     flags-kept : (alarm : Bool)
-        → laid (record { alarm = alarm; bad = reportOf s d .bad; spi = reportOf s d .spi; number = reportOf s d .number })
+        → laid (record { alarm = alarm; bad = deskReport s d .bad; spi = deskReport s d .spi; number = deskReport s d .number })
         ≡ (0xC0 + 8 * flag alarm + octet (part (4 * d) 4 s) 0 % 8) ∷ drop 1 (part (4 * d) 4 s)
-    unfolding reportOf laid
+    unfolding deskReport laid
     flags-kept alarm i = low-bits (flag alarm) i ∷ behind i
 
     -- only the alarm changes
     alarmed : (answer spi number : ℕ) → unread answer ≡ true
-        → laid (renewing answer spi number (reportOf s d)) ≡ (0xC8 + octet (part (4 * d) 4 s) 0 % 8) ∷ drop 1 (part (4 * d) 4 s)
+        → laid (renewing answer spi number (deskReport s d)) ≡ (0xC8 + octet (part (4 * d) 4 s) 0 % 8) ∷ drop 1 (part (4 * d) 4 s)
     unfolding renewing
     alarmed answer spi number e = rw e (flags-kept true)
 
     unread-by : (answer spi number : ℕ) → (answer ≡ 1) ⊎ ((answer ≡ 2) ⊎ ((answer ≡ 3) ⊎ (answer ≡ 12)))
-        → laid (renewing answer spi number (reportOf s d)) ≡ (0xC8 + octet (part (4 * d) 4 s) 0 % 8) ∷ drop 1 (part (4 * d) 4 s)
+        → laid (renewing answer spi number (deskReport s d)) ≡ (0xC8 + octet (part (4 * d) 4 s) 0 % 8) ∷ drop 1 (part (4 * d) 4 s)
     unread-by answer spi number (inl e) = alarmed answer spi number (ap unread e)
     unread-by answer spi number (inr (inl e)) = alarmed answer spi number (ap unread e)
     unread-by answer spi number (inr (inr (inl e))) = alarmed answer spi number (ap unread e)
@@ -113,23 +113,23 @@ module _ (s : List ℕ) (d : ℕ) (h : d < 3) (l : length s ≡ 12) where
   -- ---- by answer
 
   module _ (are : Octets s) (spi number : ℕ) where
-    by-answer : (answer : ℕ) → Renewed (part (4 * d) 4 s) (laid (renewing answer spi number (reportOf s d))) answer spi number
+    by-answer : (answer : ℕ) → Renewed (part (4 * d) 4 s) (laid (renewing answer spi number (deskReport s d))) answer spi number
     by-answer answer =
         record {
           done = λ e. rw e (done-by spi number);
           unread = unread-by are answer spi number;
-          association = λ e. rw e (refused-told 4 spi number (reportOf s d) refl refl);
+          association = λ e. rw e (refused-told 4 spi number (deskReport s d) refl refl);
           other = other-by answer;
-          mac = λ e. rw e (refused-told 7 spi number (reportOf s d) refl refl);
-          window = λ e. rw e (refused-told 8 spi number (reportOf s d) refl refl);
+          mac = λ e. rw e (refused-told 7 spi number (deskReport s d) refl refl);
+          window = λ e. rw e (refused-told 8 spi number (deskReport s d) refl refl);
         }
       where
-        other-by : (answer : ℕ) → (answer ≡ 5) ⊎ (answer ≡ 6) → laid (renewing answer spi number (reportOf s d)) ≡ telling 0xC8 spi number
-        other-by answer (inl e) = rw e (refused-told 5 spi number (reportOf s d) refl refl)
-        other-by answer (inr e) = rw e (refused-told 6 spi number (reportOf s d) refl refl)
+        other-by : (answer : ℕ) → (answer ≡ 5) ⊎ (answer ≡ 6) → laid (renewing answer spi number (deskReport s d)) ≡ telling 0xC8 spi number
+        other-by answer (inl e) = rw e (refused-told 5 spi number (deskReport s d) refl refl)
+        other-by answer (inr e) = rw e (refused-told 6 spi number (deskReport s d) refl refl)
 
     pub check-renews : (answer : ℕ) → Renewed (part (4 * d) 4 s) (part (4 * d) 4 (afterCheck s d answer spi number)) answer spi number
-    check-renews answer = rw (laid-there (renewing answer spi number (reportOf s d))) (by-answer answer)
+    check-renews answer = rw (laid-there (renewing answer spi number (deskReport s d))) (by-answer answer)
 
   pub reset-renews : Octets s → Reset (part (4 * d) 4 s) (part (4 * d) 4 (afterReset s d))
-  reset-renews are = laid-there (resetting (reportOf s d)) ∙ flags-kept are false
+  reset-renews are = laid-there (resetting (deskReport s d)) ∙ flags-kept are false

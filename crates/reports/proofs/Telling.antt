@@ -15,7 +15,7 @@ use Rattle.octets.specs.Numbers.{bytes, numberAt}
 use Rattle.octets.proofs.Outside.{Apart, same-part}
 use Rattle.octets.proofs.Reading.{numberAt-two}
 use Rattle.reports.specs.Report.{flag, odd, firstOctet, laid}
-use Rattle.reports.specs.Desks.{reportOf, withReport}
+use Rattle.reports.specs.Desks.{deskReport, withReport}
 use Rattle.reports.specs.declared.report.Report.{Report}
 use Rattle.reports.proofs.Placing.{own-octet, changed}
 
@@ -55,8 +55,8 @@ module _ (r : Report) where
 
 -- ---- the report itself
 
-pub told : (s : List ℕ) (desk : ℕ) (r : Report) → desk < 3 → length s ≡ 12 → r .spi < 65536 → reportOf (withReport s desk r) desk ≡ r
-unfolding reportOf laid bytes
+pub told : (s : List ℕ) (desk : ℕ) (r : Report) → desk < 3 → length s ≡ 12 → r .spi < 65536 → deskReport (withReport s desk r) desk ≡ r
+unfolding deskReport laid bytes
 told s desk r h l small =
     let place : 4 * desk + 1 + 1 ≡ 4 * desk + 2 = omega arith in
     let first : octet (withReport s desk r) (4 * desk) ≡ firstOctet r =

@@ -18,8 +18,8 @@ abbrev pub freshReports : List ℕ
 freshReports = 0xC0 ∷ 0 ∷ 0 ∷ 0 ∷ 0xC0 ∷ 0 ∷ 0 ∷ 0 ∷ 0xC0 ∷ 0 ∷ 0 ∷ 0 ∷ []
 
 -- the report of a desk: any octets are one, as the bits of type and version are not read
-unfoldable pub reportOf : List ℕ → ℕ → Report
-reportOf s desk =
+unfoldable pub deskReport : List ℕ → ℕ → Report
+deskReport s desk =
     record {
       alarm = odd (octet s (4 * desk) / 8);
       bad =
@@ -38,8 +38,8 @@ withReport s desk r = cond (ltb desk desks) (take (4 * desk) s ++ laid r ++ drop
 
 -- after a check by a desk
 abbrev pub afterCheck : List ℕ → ℕ → ℕ → ℕ → ℕ → List ℕ
-afterCheck s desk answer spi number = withReport s desk (renewing answer spi number (reportOf s desk))
+afterCheck s desk answer spi number = withReport s desk (renewing answer spi number (deskReport s desk))
 
 -- after a desk reset its alarm
 abbrev pub afterReset : List ℕ → ℕ → List ℕ
-afterReset s desk = withReport s desk (resetting (reportOf s desk))
+afterReset s desk = withReport s desk (resetting (deskReport s desk))

@@ -8,7 +8,7 @@ use report::Bad;
 use report::Report;
 use report::odd;
 ghost use mathlib.Core.Path.{_≡_};
-ghost use Rattle.reports.specs.Desks.{freshReports, reportOf, withReport, afterCheck, afterReset};
+ghost use Rattle.reports.specs.Desks.{freshReports, deskReport, withReport, afterCheck, afterReset};
 
 // The desks that have a report, and the octets of one.
 const DESKS: u8 = 3;
@@ -22,8 +22,8 @@ pub struct Reports {
 }
 
 // The report of a desk; where there is none, its octets are read as 0.
-fn report_of(octets: &[u8], desk: u8) -> Report
-    ensures { λ r. ⌜ r ≡ reportOf (now (octets .entry)) desk ⌝ }
+fn desk_report(octets: &[u8], desk: u8) -> Report
+    ensures { λ r. ⌜ r ≡ deskReport (now (octets .entry)) desk ⌝ }
 {
     let at = REPORT * (desk as usize);
     let first = octet_at(octets, at);
@@ -70,7 +70,7 @@ impl Reports {
         ensures { λ r. ⌜ r .octets ≡ afterCheck (self .octets) desk answer spi number ⌝ }
     {
         let octets = self.octets;
-        let report = report_of(&octets, desk);
+        let report = desk_report(&octets, desk);
         self.with(desk, report.renewed(answer, spi, number))
     }
 
@@ -79,7 +79,7 @@ impl Reports {
         ensures { λ r. ⌜ r .octets ≡ afterReset (self .octets) desk ⌝ }
     {
         let octets = self.octets;
-        let report = report_of(&octets, desk);
+        let report = desk_report(&octets, desk);
         self.with(desk, report.reset())
     }
 }

@@ -2,7 +2,7 @@
 -- Assumes nothing.
 use mathlib.Core.Path.{_∙_, sym, ap}
 use Prim.Native.Nat.{ℕ, _+_, _*_}
-use Rattle.event_log.specs.Held.{countIn}
+use Rattle.event_log.specs.Held.{keptCount}
 use Rattle.event_log.proofs.Lines.{reply-long}
 use borrow.Author.Needs.{needs}
 use Rattle.event_log.proofs.dumping.dump_size.Statement.{statement}
@@ -11,7 +11,7 @@ use Rattle.event_log.proofs.dumping.dump_size.Tie as tie
 returns : tie.Need-returns
 returns c =
     let log = c .before .args .log in
-    ap (λ (n : ℕ). 3 + 5 * n) (c .count-of .ensures .0) ∙ sym (reply-long (countIn (log .kept)) (log .events))
+    ap (λ (n : ℕ). 3 + 5 * n) (c .kept-count .ensures .0) ∙ sym (reply-long (keptCount (log .kept)) (log .events))
 
 pub dump-size-spec : {M : Type 1} → statement M
 dump-size-spec =

@@ -18,19 +18,19 @@ returns c =
     let front = made .before .before .before .before .before in
     let counted = front .before .before .before .before .before .before in
     let a = counted .before .before .args in
-    let n = counted .count-of .result in
+    let n = counted .kept-count .result in
     made .put-lines .ensures
     ∙ ap (λ (o : List ℕ). linesBehind o (a .log .events) n)
     (front .put .ensures ∙ ap (λ (f : List ℕ). fronted f (a .output .now)) (front .before .before .before .front-of .ensures))
     ∙ reply-written (a .output .now) (a .log .events) n (omega arith)
-    ∙ ap (λ (k : ℕ). fronted (dumpReply (eventsIn k (a .log .events))) (a .output .now)) (counted .count-of .ensures .0)
+    ∙ ap (λ (k : ℕ). fronted (dumpReply (eventsIn k (a .log .events))) (a .output .now)) (counted .kept-count .ensures .0)
 
 returns-2 : tie.Need-returns-2
 returns-2 c =
     let counted = c .before in
     let a = counted .before .before .args in
-    reply-kept-back (a .output .now) (a .log .events) (counted .count-of .result) (omega arith)
-    ∙ ap (λ (k : ℕ). fronted (dumpReply (eventsIn k (a .log .events))) (a .output .now)) (counted .count-of .ensures .0)
+    reply-kept-back (a .output .now) (a .log .events) (counted .kept-count .result) (omega arith)
+    ∙ ap (λ (k : ℕ). fronted (dumpReply (eventsIn k (a .log .events))) (a .output .now)) (counted .kept-count .ensures .0)
 
 pub write-dump-spec : {M : Type 1} → statement M
 write-dump-spec =
