@@ -2,12 +2,13 @@
 -- none, and a done erase is where the count begins.
 -- Assumes nothing.
 use Prim.Native.Nat.{ℕ}
-use mathlib.Core.Bool.{cond}
+use mathlib.Core.Bool.{cond, _&&_, _||_}
 use mathlib.Core.List.{List, [], _∷_, _++_}
+use lib.Dec.{eqb}
 use Rattle.event_log.specs.Counts.{KeepsCount}
 use Rattle.event_log.specs.Events.{Event}
 use Rattle.event_log.specs.Held.{event, held}
-use Rattle.notes.specs.Noting.{freshNotes, notedCheck, eraseTag, forLog, isDone, notedCommand}
+use Rattle.notes.specs.Noting.{freshNotes, notedCheck, notedCommand}
 use Rattle.notes.specs.declared.Notes.{Notes}
 
 -- a call with its answer: a check by a desk, with the frame's SPI and the number that is told; a command by a desk, with its first octet
@@ -28,7 +29,9 @@ notedAll n (call ∷ more) = notedAll (noted n call) more
 abbrev pub eventsAfter : List Event → Answered → List Event
 eventsAfter es (checks desk answer spi number) = es ++ (event desk 0 answer ∷ [])
 eventsAfter es (commands desk tag answer) =
-    cond (forLog tag) (cond (isDone eraseTag tag answer) [] es) (es ++ (event desk tag answer ∷ []))
+    cond (eqb tag 0x33 || eqb tag 0x34)
+    (cond (eqb tag 0x34 && eqb answer 0) [] es)
+    (es ++ (event desk tag answer ∷ []))
 
 abbrev pub eventsOf : List Event → List Answered → List Event
 eventsOf es [] = es

@@ -1,5 +1,5 @@
--- Document 02, request 11, in octets: what a check with each answer, and what an alarm reset, leave of the four octets of a report. Beside the
--- flags and the alarm: in the first octet, 1 is for a bad association, 2 for a bad MAC, 4 for a bad number and 8 for the alarm.
+-- Document 02, request 11, in octets: what a check with each answer, and what an alarm reset, leave of the four octets of a report. Above C0
+-- the first of them has 8 for the alarm, 4 for a bad number, 2 for a bad MAC and 1 for a bad association.
 -- Assumes nothing.
 use mathlib.Core.Path.{_≡_}
 use mathlib.Core.Logic.{_⊎_}
