@@ -3,12 +3,13 @@ use association::Wanted;
 use judging::Said;
 use kinds::Framing;
 use kinds::Named;
+use kinds::kind_of;
 use octets::two_at;
 ghost use mathlib.Core.Path.{_≡_};
 ghost use Rattle.kinds.specs.Kinds.{framed, kindBehind};
 ghost use Rattle.protection.specs.Protection.{spiIn};
 ghost use Rattle.judging.specs.Said.{kindSaid};
-ghost use Rattle.judging.specs.Wants.{wanted};
+ghost use Rattle.judging.specs.Wants.{wanted, checkingWants};
 
 pub(crate) const SENDING: u8 = 1;
 
@@ -44,5 +45,34 @@ pub(crate) fn spi_on(asked: Named, frame: &[u8]) -> u16
     match asked {
         Named::Kind(kind) => two_at(frame, kind.header_length(frame)),
         Named::Nothing => two_at(frame, 0),
+    }
+}
+
+// What a frame that came in asks of an entry, whether or not it is admitted; one of no kind has no identifiers.
+pub fn receiving_wants(said: Said, frame: &[u8]) -> Wanted
+    ensures { λ r. ⌜ r ≡ checkingWants said (now (frame .entry)) ⌝ }
+{
+    let asked = kind_of(said.kind);
+    let spi = spi_on(asked, frame);
+    match asked {
+        Named::Kind(kind) => wanted_by(
+            spi,
+            RECEIVING,
+            said,
+            Framing {
+                kind,
+                field: said.field,
+            },
+            frame,
+        ),
+        Named::Nothing => Wanted {
+            desk: said.desk,
+            spi,
+            direction: RECEIVING,
+            kind: said.kind,
+            spacecraft: 0,
+            channel: 0,
+            map: 0,
+        },
     }
 }

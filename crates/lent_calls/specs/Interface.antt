@@ -1,5 +1,5 @@
--- The module as C calls it: the one number that a call returns, and what it leaves of the image, the numbers and the output that it was lent.
--- Each call is the one of link's specs/Calls, or of commands' specs/Commanding, on the lent numbers, if they are 32.
+-- The module as C calls it: the one number that a call returns, and what it leaves of the notes, the image, the numbers and the output that it
+-- was lent. Each call is the one of link's specs/Calls, or of noting's specs/Noted, on the lent numbers, if they are 32.
 -- Assumes nothing.
 use Prim.Native.Nat.{ℕ, _/_, _%_, _^_}
 use mathlib.Core.Path.{_≡_}
@@ -9,7 +9,9 @@ use lib.Dec.{eqb}
 use lib.ListN.{length, take}
 use Rattle.image.specs.Image.{validImage}
 use Rattle.link.specs.Calls.{Left, refused, cut, loaded, secured, checked}
-use Rattle.commands.specs.Commanding.{madeBy, commandReply, commanded}
+use Rattle.commands.specs.Commanding.{madeBy, commandReply}
+use Rattle.notes.specs.declared.Notes.{Notes}
+use Rattle.noting.specs.Noted.{Noted, checkLeft, commandedWith, commandLeft}
 use Rattle.judging.specs.Said.{Said}
 use Rattle.lent.specs.Word.{word}
 
@@ -41,11 +43,13 @@ loadCall image numbers = counted image numbers [] (loaded image numbers)
 unfoldable pub secureCall : List ℕ → List ℕ → Said → ℕ → List ℕ → List ℕ → Left
 secureCall image numbers said spi frame output = counted image numbers output (secured image numbers said spi frame output)
 
-unfoldable pub checkCall : List ℕ → List ℕ → Said → List ℕ → List ℕ → Left
-checkCall image numbers said frame output = counted image numbers output (checked image numbers said frame output)
+unfoldable pub checkCall : Notes → List ℕ → List ℕ → Said → List ℕ → List ℕ → Noted
+checkCall notes image numbers said frame output =
+    checkLeft notes image said frame (counted image numbers output (checked image numbers said frame output))
 
-unfoldable pub commandCall : List ℕ → List ℕ → ℕ → List ℕ → List ℕ → Left
-commandCall image numbers desk command output = counted image numbers output (commanded image numbers desk command output)
+unfoldable pub commandCall : Notes → List ℕ → List ℕ → ℕ → List ℕ → List ℕ → Noted
+commandCall notes image numbers desk command output =
+    commandLeft notes desk command (counted image numbers output (commandedWith (notes .log) image numbers desk command output))
 
 -- a command cut after j stores: the number of those that were made, and the image
 pub record CutShort (image numbers : List ℕ) (desk : ℕ) (command : List ℕ) (room j : ℕ) (r : ℕ) (i : List ℕ) : Type 0 where
@@ -60,3 +64,15 @@ pub record Returned (call : Left) (r : ℕ) (i n o : List ℕ) : Type 0 where
   pub image : i ≡ call .image
   pub numbers : n ≡ call .numbers
   pub output : o ≡ call .output
+
+-- with the notes that it was lent
+pub record NotedReturned (call : Noted) (r : ℕ) (notes : Notes) (i n o : List ℕ) : Type 0 where
+  pub returned : Returned (call .left) r i n o
+  pub notes : notes ≡ call .notes
+
+-- a check and a command, from what they are lent and told to what they return and leave
+abbrev pub Checks : Notes → List ℕ → List ℕ → ℕ → ℕ → ℕ → List ℕ → List ℕ → ℕ → Notes → List ℕ → List ℕ → List ℕ → Type 0
+Checks notes image numbers desk kind field frame output = NotedReturned (checkCall notes image numbers (told desk kind field) frame output)
+
+abbrev pub Commands : Notes → List ℕ → List ℕ → ℕ → List ℕ → List ℕ → ℕ → Notes → List ℕ → List ℕ → List ℕ → Type 0
+Commands notes image numbers desk command output = NotedReturned (commandCall notes image numbers desk command output)
