@@ -1,2 +1,2 @@
-pub mod Replying
+pub mod Answering
 pub mod Unstored
