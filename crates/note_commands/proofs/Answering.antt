@@ -1,12 +1,13 @@
 -- A command to the notes, by the first test that applies: a refusal changes nothing, and past the last test the reply has room.
 -- Assumes nothing.
 use Prim.Native.Nat.{ℕ}
-use mathlib.Core.Path.{_≡_, ap, _∙_}
+use mathlib.Core.Path.{_≡_, refl, ap, _∙_}
 use mathlib.Core.Bool.{not}
 use mathlib.Core.List.{List, []}
 use native.Mathlib.Omega.{arith}
 use borrow.Author.Tests.{eq-eqb, ne-eqb, ltb-false, le-leb}
 use lib.ListN.{length}
+use Rattle.octets.specs.Numbers.{bytes}
 use Rattle.octets.specs.Output.{written, fronted}
 use Rattle.octets.proofs.Filling.{with-room}
 use Rattle.image.specs.Image.{validImage}
@@ -20,8 +21,31 @@ use Rattle.link.specs.Calls.{Left, leaving}
 use Rattle.link.specs.Steps.{outcome}
 use Rattle.link.specs.declared.outcome.Outcome.{Outcome}
 use Rattle.command_form.specs.Form.{tagOf}
+use Rattle.event_log.specs.Events.{dumpReply, eraseReply}
+use Rattle.event_log.specs.Held.{held}
 use Rattle.event_log.specs.declared.events.Log.{Log}
 use Rattle.note_commands.specs.NoteCommands.{wrongDesk, bare, noteReply, noteTests, noteCommanded}
+
+-- ---- the reply, by the first octet
+
+module _ (log : Log) (tag : ℕ) where
+  pub dumps : tag ≡ 0x33 → noteReply log tag ≡ dumpReply (held log .kept)
+  unfolding noteReply
+  dumps e = rw (eq-eqb tag 0x33 e)
+
+  pub erases : (tag ≡ 0x33 → ⊥) → tag ≡ 0x34 → noteReply log tag ≡ eraseReply
+  unfolding noteReply
+  erases n e = rw (ne-eqb tag 0x33 n, eq-eqb tag 0x34 e)
+
+  pub replies-nothing : (tag ≡ 0x33 → ⊥) → (tag ≡ 0x34 → ⊥) → noteReply log tag ≡ []
+  unfolding noteReply
+  replies-nothing n m = rw (ne-eqb tag 0x33 n, ne-eqb tag 0x34 m)
+
+pub erase-long : 7 ≡ length eraseReply
+unfolding eraseReply bytes
+erase-long = refl
+
+-- ---- what is left
 
 -- with no reply the output stays
 pub fronted-none : (out : List ℕ) → out ≡ fronted [] out

@@ -4,6 +4,7 @@ mod judged;
 mod replying;
 
 use event_log::Log;
+use judged::Ruling;
 use judged::judge;
 use judging::Answer;
 use link::Outcome;
@@ -17,7 +18,6 @@ use replying::write_reply;
 ghost use mathlib.Core.Path.{_≡_};
 ghost use Rattle.link.specs.Calls.{leaving};
 ghost use Rattle.note_commands.specs.NoteCommands.{forNotes, noteCommanded};
-pub use judged::Ruling;
 
 // By its first octet.
 pub fn for_notes(tag: u8) -> bool

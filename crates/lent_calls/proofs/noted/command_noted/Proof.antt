@@ -1,40 +1,50 @@
--- `command_lent` is right because with 32 numbers it is the module's command, and with another count the refusal.
+-- `command_noted` is right because with 32 numbers it is the command call with the notes, and with another count the refusal, noted.
 -- Assumes nothing.
-use mathlib.Core.List.{List}
 use Prim.Native.Nat.{ℕ}
-use Rattle.commands.specs.Commanding.{commanded}
+use mathlib.Core.Path.{refl, ap, _∙_}
+use mathlib.Core.Bool.{cond}
+use mathlib.Core.List.{List}
+use Rattle.image.specs.Image.{validImage}
+use Rattle.link.specs.Calls.{Left}
+use Rattle.notes.specs.Noting.{notedCommand}
+use Rattle.noting.specs.Noted.{commandedWith, commandLeft, commandNoted}
 use Rattle.lent_calls.specs.Interface.{commandCall}
-use Rattle.lent_calls.proofs.Returning.{returned, miscounted}
+use Rattle.lent_calls.proofs.Returning.{noted-returned, noted-miscounted}
 use borrow.Author.Needs.{needs}
-use Rattle.lent_calls.proofs.calls.command_lent.Statement.{statement}
-use Rattle.lent_calls.proofs.calls.command_lent.Tie as tie
+use Rattle.lent_calls.proofs.noted.command_noted.Statement.{statement}
+use Rattle.lent_calls.proofs.noted.command_noted.Tie as tie
 
 returns : tie.Need-returns
 unfolding commandCall
 returns c =
     let g = c .before .before .before .before .before .before .before .args in
-    miscounted (λ (n : List ℕ). commanded (g .image .now) n (g .desk) (g .command .now) (g .output .now))
+    noted-miscounted (λ (x : Left). commandLeft (g .notes) (g .desk) (g .command .now) x .notes)
+    (λ (n : List ℕ). commandedWith (g .notes .log) (g .image .now) n (g .desk) (g .command .now) (g .output .now))
     (g .image .now) (g .numbers .now) (g .output .now)
-    (c .before .before .if1 .taken)
-    (c .refuse-count .ensures)
+    (c .before .before .before .if1 .taken)
+    (c .refuse-command .ensures .0)
+    (c .refuse-command .ensures .1
+    ∙ ap (λ (t : ℕ). notedCommand (g .notes) (g .desk) t (cond (validImage (g .image .now)) 2 1)) (c .before .octet-at .ensures))
 
 returns-2 : tie.Need-returns-2
-unfolding commandCall
+unfolding commandCall commandNoted
 returns-2 c =
-    let at-command = c .before .before .before .before .before .before .before .before .before in
-    let at-else = at-command .before .before .before .before .before in
+    let at-call = c .before .before .before .before .before .before .before .before .before in
+    let at-else = at-call .before .before .before .before .before in
     let g = at-else .before .before .before .before .before .args in
-    returned (λ (n : List ℕ). commanded (g .image .now) n (g .desk) (g .command .now) (g .output .now))
+    noted-returned (λ (x : Left). commandLeft (g .notes) (g .desk) (g .command .now) x .notes)
+    (λ (n : List ℕ). commandedWith (g .notes .log) (g .image .now) n (g .desk) (g .command .now) (g .output .now))
     (g .image .now) (g .numbers .now) (g .output .now)
-    (at-command .command .result)
+    (at-call .command-noted .result)
     (at-else .if1 .left)
-    (at-command .before .before .numbers-in .ensures)
-    (at-command .command .ensures)
+    (at-call .before .before .numbers-in .ensures)
+    (at-call .command-noted .ensures)
     (c .before .before .before .hand-back .ensures)
     (c .pack .ensures)
+    refl
 
-pub command-lent-spec : {M : Type 1} → statement M
-command-lent-spec =
+pub command-noted-spec : {M : Type 1} → statement M
+command-noted-spec =
     tie.close
     (tie.spec
     (λ c κs. search needs)
