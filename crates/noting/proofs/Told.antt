@@ -1,13 +1,14 @@
 -- The notes of a call are those of its definition where its outcome is, and say of an entry's number what the outcome says.
 -- Assumes nothing.
 use Prim.Native.Nat.{ℕ, _%_}
-use mathlib.Core.Path.{_≡_, ap, ap₂, _∙_}
+use mathlib.Core.Path.{_≡_, refl, ap, ap₂, _∙_}
 use mathlib.Core.Bool.{true, false}
 use mathlib.Core.List.{List}
 use Rattle.numbers.specs.Numbers.{numberOf}
 use Rattle.protection.specs.Protection.{spiIn}
 use Rattle.judging.specs.Answers.{reported}
 use Rattle.judging.specs.Said.{Said, kindSaid}
+use Rattle.judging.specs.Wants.{wanted, checkingWants}
 use Rattle.link.specs.Calls.{Left, leaving, checkingEntry}
 use Rattle.link.specs.declared.outcome.Outcome.{Outcome}
 use Rattle.command_form.specs.Form.{tagOf}
@@ -47,6 +48,12 @@ module _ (n : Notes) (r : NotedOutcome) (o : Outcome) (i u : List ℕ) (x : Left
   command-told desk command tag noted t =
       let notes : r .notes ≡ commandLeft n desk command x .notes = noted ∙ (λ j. notedCommand n desk (t j) (answered j)) in
       λ j. record { left = left j; notes = notes j }
+
+-- ---- the SPI that a frame asks for is the one that it holds
+
+pub spi-wanted : (said : Said) (frame : List ℕ) → checkingWants said frame .spi ≡ spiIn (kindSaid said) frame
+unfolding wanted
+spi-wanted said frame = refl
 
 -- ---- a command to the notes, and every other
 

@@ -18,22 +18,22 @@ use octets::octet_at;
 ghost use mathlib.Core.Path.{_≡_};
 ghost use Rattle.engines.specs.Lent.{Lent};
 ghost use Rattle.association.specs.Association.{indexOf};
-ghost use Rattle.link.specs.Calls.{leaving, checkingEntry};
+ghost use Rattle.link.specs.Calls.{leaving};
 ghost use Rattle.noting.specs.Noted.{leavingNoted, checkNoted, commandedWith, commandNoted};
 pub use noted::NotedOutcome;
 pub use noted::number_of;
 
-// The entry that a frame matches, 0 where it matches none. It is looked for before the call, as the definition says: a refusal does not tell it.
-fn entry_of(image: &[u8], said: Said, frame: &[u8]) -> u8
-    ensures { λ r. ⌜ r ≡ checkingEntry (now (image .entry)) said (now (frame .entry)) ⌝ }
+// The entry that a search finds, and 0 for none.
+fn entry_in(found: Found) -> u8
+    ensures { λ r. ⌜ r ≡ indexOf found ⌝ }
 {
-    match find(image, receiving_wants(said, frame)) {
+    match found {
         Found::At(entry) => entry,
         Found::Nothing => 0,
     }
 }
 
-// Checking by the engine that the tables are for.
+// Checking by the engine that the tables are for. The entry is looked for before the call, as the definition says: an outcome does not tell it.
 pub fn check_noted(
     notes: Notes,
     tables: &[u32],
@@ -46,17 +46,13 @@ pub fn check_noted(
     requires { ⌜ Lent (now tables) ⌝ }
     ensures { λ r. ⌜ leavingNoted r (now (image .exit)) (now (output .exit)) ≡ checkNoted notes (now (image .entry)) (numbers .last) said (now (frame .entry)) (now (output .entry)) ⌝ }
 {
-    let entry = entry_of(image, said, frame);
+    let wants = receiving_wants(said, frame);
+    let found = find(image, wants);
+    let entry = entry_in(found);
     let outcome = check_by(tables, image, numbers, said, frame, output);
     let after = outcome.numbers;
     let number = after.of(entry);
-    note_check(
-        notes,
-        said.desk,
-        receiving_wants(said, frame).spi,
-        number,
-        outcome,
-    )
+    note_check(notes, said.desk, wants.spi, number, outcome)
 }
 
 // What a command leaves beside the notes.
@@ -70,7 +66,8 @@ fn command_with(
 ) -> Outcome
     ensures { λ r. ⌜ leaving r (now (image .exit)) (now (output .exit)) ≡ commandedWith (notes .log) (now (image .entry)) (numbers .last) desk (now (command .entry)) (now (output .entry)) ⌝ }
 {
-    if for_notes(octet_at(command, 0)) {
+    let tag = octet_at(command, 0);
+    if for_notes(tag) {
         let log = notes.log;
         return command_notes(log, image, numbers, desk, command, output);
     }
@@ -87,6 +84,7 @@ pub fn command_noted(
 ) -> NotedOutcome
     ensures { λ r. ⌜ leavingNoted r (now (image .exit)) (now (output .exit)) ≡ commandNoted notes (now (image .entry)) (numbers .last) desk (now (command .entry)) (now (output .entry)) ⌝ }
 {
+    let tag = octet_at(command, 0);
     let outcome = command_with(notes, image, numbers, desk, command, output);
-    note_command(notes, desk, octet_at(command, 0), outcome)
+    note_command(notes, desk, tag, outcome)
 }
