@@ -1,16 +1,17 @@
 -- `judge` is right because an image that breaks a rule is answered by 1, numbers that do not agree by 2, and the rest past these.
 -- Assumes nothing.
-use mathlib.Core.Path.{refl, sym, ap, _∙_, subst}
+use mathlib.Core.Path.{_≡_, refl, sym, ap, _∙_, subst}
 use mathlib.Core.Bool.{not}
 use Prim.Native.Nat.{ℕ}
 use native.Mathlib.Omega.{arith}
 use lib.ListN.{length}
 use Rattle.command_form.specs.Form.{tagOf}
+use Rattle.judging.specs.Answers.{first}
 use Rattle.judging.specs.declared.answers.Answer.the-variants as answer
 use Rattle.judging.proofs.Admitting.{refuses}
 use Rattle.judging.proofs.First.{applies, passes}
 use Rattle.judging.proofs.Standings.{broken, disagreeing, standing-well}
-use Rattle.note_commands.specs.NoteCommands.{noteReply}
+use Rattle.note_commands.specs.NoteCommands.{noteReply, deskTests, noteTests}
 use Rattle.note_commands.specs.Steps.{Ruled}
 use borrow.Author.Needs.{needs}
 use Rattle.note_commands.proofs.judged.judge.Statement.{statement}
@@ -39,8 +40,9 @@ returns-3 c =
     let d = told .before .before in
     let g = start d .args in
     let w = standing-well (g .image .now) (g .numbers .last) (sym (d .test-standing .ensures) ∙ told .enum-told3 .given .1) in
-    subst (λ (a : ℕ). Ruled (c .judge-within .result) a (length (noteReply (g .log) (tagOf (g .command .now)))))
-    (sym (passes 1 _ _ (ap not (w .0)) ∙ passes 2 _ _ (ap not (w .1)))) (c .judge-within .ensures)
+    let past : first (noteTests (g .log) (g .image .now) (g .numbers .last) (g .desk) (g .command .now) (g .room))
+    ≡ first (deskTests (g .log) (g .desk) (g .command .now) (g .room)) = passes 1 _ _ (ap not (w .0)) ∙ passes 2 _ _ (ap not (w .1)) in
+    subst (λ (a : ℕ). Ruled (c .judge-within .result) a (length (noteReply (g .log) (tagOf (g .command .now))))) (sym past) (c .judge-within .ensures)
 
 pub judge-spec : {M : Type 1} → statement M
 judge-spec =
