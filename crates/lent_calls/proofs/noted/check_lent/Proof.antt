@@ -41,7 +41,7 @@ returns-2 c =
     (g .image .now) (g .numbers .now) (g .output .now)
     (at-check .check-noted .result)
     (at-else .if1 .left)
-    (at-check .before .before .numbers-in .ensures)
+    (at-check .before .before .before .numbers-in .ensures)
     (at-check .check-noted .ensures)
     (c .before .before .before .hand-back .ensures)
     (c .pack .ensures)

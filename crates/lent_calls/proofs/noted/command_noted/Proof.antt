@@ -17,7 +17,7 @@ use Rattle.lent_calls.proofs.noted.command_noted.Tie as tie
 returns : tie.Need-returns
 unfolding commandCall
 returns c =
-    let g = c .before .before .before .before .before .before .before .args in
+    let g = c .before .before .before .before .before .before .before .before .args in
     noted-miscounted (λ (x : Left). commandLeft (g .notes) (g .desk) (g .command .now) x .notes)
     (λ (n : List ℕ). commandedWith (g .notes .log) (g .image .now) n (g .desk) (g .command .now) (g .output .now))
     (g .image .now) (g .numbers .now) (g .output .now)
@@ -37,7 +37,7 @@ returns-2 c =
     (g .image .now) (g .numbers .now) (g .output .now)
     (at-call .command-noted .result)
     (at-else .if1 .left)
-    (at-call .before .before .numbers-in .ensures)
+    (at-call .before .before .before .numbers-in .ensures)
     (at-call .command-noted .ensures)
     (c .before .before .before .hand-back .ensures)
     (c .pack .ensures)
@@ -47,6 +47,7 @@ pub command-noted-spec : {M : Type 1} → statement M
 command-noted-spec =
     tie.close
     (tie.spec
+    (λ c κs. search needs)
     (λ c κs. search needs)
     (λ c. search needs)
     returns
