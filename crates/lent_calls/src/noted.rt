@@ -100,17 +100,7 @@ pub fn check_noted(
 ) -> NotedWord
     ensures { λ r. ⌜ Checks notes (now (image .entry)) (now (numbers .entry)) desk kind field (now (frame .entry)) (now (output .entry)) (r .word) (r .notes) (now (image .exit)) (now (numbers .exit)) (now (output .exit)) ⌝ }
 {
-    check_lent(
-        notes,
-        &[],
-        image,
-        numbers,
-        desk,
-        kind,
-        field,
-        frame,
-        output,
-    )
+    check_lent(notes, &[], image, numbers, desk, kind, field, frame, output)
 }
 
 // At a ground station, by tables of 4,096 octets, which lie on this call's stack and in no other's.
