@@ -1,2 +1,3 @@
+pub mod SameCalls
 pub mod SameFrames
 pub mod SameImages

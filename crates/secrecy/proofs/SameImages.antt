@@ -105,7 +105,7 @@ module _ (image : List ℕ) where
 -- ---- what is the same
 
 module _ {image other : List ℕ} (b : ButKeys image other) where
-  same-version : versionOf other ≡ versionOf image
+  pub same-version : versionOf other ≡ versionOf image
   same-version = b .same 0 (contents-public image 0 (omega arith))
 
   pub same-count : countOf other ≡ countOf image
