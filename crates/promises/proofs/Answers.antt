@@ -41,12 +41,13 @@ use Rattle.link.proofs.Leaving.{left-answer}
 use Rattle.judging.proofs.Searches.{Finds, finds, finds-none}
 use Rattle.promises.specs.Answers.{reporting, Rules, rule, noMore, reportOf, Gives, Exactly}
 use Rattle.promises.specs.Answers.{loadRules, securingRules, checkingRules, Answering}
-use Rattle.promises.specs.Frames.{FrameRules, RightField, securitySize, spiOn, numberOn, textOn, macOn, rightMac}
-use Rattle.promises.specs.Images.{serviceAt, windowAt, maskAt, keyOctetsAt, lastAt, ImageRules, Agreeing, Serves}
+use Rattle.promises.specs.Frames.{FrameRules, RightField, Opens, securitySize, spiOn, numberOn, textOn, macOn, rightMac}
+use Rattle.promises.specs.Images.{rowIn, serviceAt, windowAt, maskAt, keyOctetsAt, lastAt, ImageRules, Agreeing, Serves}
 use Rattle.promises.proofs.Fields.{service-at, window-at, mask-at, key-at}
 use Rattle.promises.proofs.Readings.{form, header-size, trailer-size, frame-kept, frame-tested, field-kept, field-tested}
-use Rattle.promises.proofs.Readings.{spi-on, security-size, number-on, text-on, mac-right}
+use Rattle.promises.proofs.Readings.{spi-on, security-size, text-on, mac-right}
 use Rattle.promises.proofs.Refusals.{refusals}
+use Rattle.promises.proofs.Used.{held-kept, held-right}
 use Rattle.promises.proofs.Valids.{rules-kept, rules-valid, agreement, agreement-tested, serving, served}
 
 -- ---- rules give one answer
@@ -189,8 +190,22 @@ module _ (image numbers : List ℕ) (octets : Octets image) (direction : ℕ) (s
     text : textIn h (kindSaid said) frame ≡ textOn (serviceAt image e) said frame
     text = text-on h said frame ∙ ap (λ (s : ℕ). textOn s said frame) held-service
 
-    number : numberIn h (kindSaid said) frame ≡ numberOn (serviceAt image e) said frame
-    number = number-on h said frame ∙ ap (λ (s : ℕ). numberOn s said frame) held-service
+    abbrev n : ℕ
+    n = numberIn h (kindSaid said) frame
+
+    number-read : 0 < n → n ≤ greatest
+        → Opens (rowIn image) (serviceAt image e) said spi frame × (numberOn (rowIn image) (serviceAt image e) said frame ≡ n)
+    number-read some most =
+        let k =
+        held-kept image numbers e (rules-valid image octets rules) (f .below) said frame (rw (f .association) at some) (rw (f .association) at most)
+        in
+        (rw (serves .spis) at (k .0), k .1 ∙ ap (λ (x : Association). numberIn (heldIn x) (kindSaid said) frame) (sym (f .association)))
+
+    number-found : Opens (rowIn image) (serviceAt image e) said spi frame → numberOn (rowIn image) (serviceAt image e) said frame ≤ greatest
+        → n ≡ numberOn (rowIn image) (serviceAt image e) said frame
+    number-found opens most =
+        ap (λ (x : Association). numberIn (heldIn x) (kindSaid said) frame) (f .association)
+        ∙ held-right image numbers e (rules-valid image octets rules) (f .below) said frame (rw (serves .spis) opens) most
 
     mac : macRight h (kindSaid said) frame
         ≡ same (rightMac (serviceAt image e) said (maskAt image e) (keyOctetsAt image e) frame) (macOn said frame)
@@ -290,7 +305,8 @@ module _ (image numbers : List ℕ) (octets : Octets image) (said : Said) (frame
       let m = mac image numbers octets 2 said spi frame rules some in
       let l = last image numbers octets 2 said spi frame rules some in
       let o = held-window image numbers octets 2 said spi frame rules some in
-      let v = number image numbers octets 2 said spi frame rules some in
+      let read = number-read image numbers octets 2 said spi frame rules some in
+      let found = number-found image numbers octets 2 said spi frame rules some in
       let all = under image numbers octets 2 said spi frame rules some in
       next-rule answer.TooShort (tooShort (kindSaid said) (securityLength h) frame) _ _ _
       (λ t r. omega (arith, r d s, ltb-true (length frame) least t))
@@ -303,12 +319,15 @@ module _ (image numbers : List ℕ) (octets : Octets image) (said : Said) (frame
       (λ t. all _ (same-eq _ _ (sym m ∙ not-false right t)))
       (next-rule answer.OutsideWindow (not inside) _ _ _
       (λ t r.
-      let x = r d s in
+      let x = r d s .1 in
+      let v = found (r d s .0) (x .most) in
       differ inside (accepting (a .number) (h .window) n (omega (arith, x .above)) (omega (arith, x .near)) (omega (arith, x .most)))
       (not-true inside t))
       (λ t.
       let x = accepted (a .number) (h .window) n (not-false inside t) in
-      all _ (record { above = omega (arith, x .above); near = omega (arith, x .near); most = omega (arith, x .fits) }))
+      let v = read (omega (arith, x .above)) (x .fits) in
+      let same = v .1 in
+      all _ (v .0, record { above = omega (arith, x .above); near = omega (arith, x .near); most = omega (arith, x .fits) }))
       last-done)))))
 
 -- ---- all of them
@@ -335,6 +354,8 @@ answering =
             fourteen = refl;
             fifteen = refl;
             sixteen = refl;
+            seventeen = refl;
+            eighteen = refl;
           };
       loading = λ image numbers octets.
           exactly (loadRules image) (loaded image numbers)

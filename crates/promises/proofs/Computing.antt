@@ -11,11 +11,12 @@ use Rattle.kinds.specs.Kinds.{named}
 use Rattle.frame.specs.Closing.{controlOf, closed, fieldOk}
 use Rattle.frame.specs.Parts.{headerOf, clearContent, securityOf, securedContent}
 use Rattle.frame.specs.Rules.{obeys}
-use Rattle.association.specs.Association.{associationOf, held, matching}
+use Rattle.association.specs.Association.{namingOf, associationOf, held, matching}
 use Rattle.bodies.specs.Body.{bodyIn, bodyOk}
 use Rattle.marks.specs.Gray.{decoded}
 use Rattle.bodies.specs.Layout.{layoutOf}
-use Rattle.image.specs.Image.{bodyAt, bodyOf, markAt, markIn, keyAt, keyOf, imageSize, laidOut, entryOk, validImage}
+use Rattle.keys.specs.Keys.{keyFrom, keyIndex, keyInState, keyUnder, keyOk, keyPartOk}
+use Rattle.image.specs.Image.{bodyAt, bodyOf, markAt, markIn, partAt, keyCount, keyOf, imageSize, laidOut, entryOk, keysOk, validImage}
 use Rattle.numbers.specs.Numbers.{loadedNumbers, agrees}
 use Rattle.association.specs.Search.{bodyServes, matches, firstFrom, entryFor}
 use Rattle.marks.specs.Stores.{steps, stored}
@@ -25,8 +26,11 @@ use Rattle.judging.specs.Wants.{wanted}
 use Rattle.link.specs.Calls.{loaded, securingReply, secured, securedCut, checkingReply, checkedAs, checkedCutAs}
 use Rattle.protection.specs.Protection.{securedFrame, fieldIn, textIn, numberIn, clearLength}
 use Rattle.judging.specs.Replies.{seen, securingTests, securing, checkingTests, checking}
+use Rattle.services.specs.SecurityHeader.{numberUnder}
 use Rattle.services.specs.Services.{service}
 use Rattle.promises.specs.Forms.{formOf}
+use Rattle.promises.specs.Images as words
+use Rattle.promises.specs.Versions.{rowOf}
 use Rattle.promises.specs.Cases.{imageWith, securedC, clearTc, room}
 
 unfoldable pub octets : Unit {0}
@@ -44,19 +48,24 @@ closings = tt
 
 -- in the promises' words
 unfoldable pub forms : Unit {0}
-unfolding formOf
+unfolding formOf rowOf words.keyFrom
 forms = tt
 
 unfoldable pub images : Unit {0}
-unfolding layoutOf bodyIn bodyOk decoded bodyAt bodyOf markAt markIn keyAt keyOf imageSize laidOut entryOk validImage loadedNumbers agrees
+unfolding layoutOf bodyIn bodyOk decoded bodyAt bodyOf markAt markIn keyOf imageSize laidOut entryOk validImage loadedNumbers agrees
 images = tt
 
+-- a key part
+unfoldable pub keyParts : Unit {0}
+unfolding keyFrom keyIndex keyInState keyUnder keyOk keyPartOk partAt keyCount keysOk
+keyParts = tt
+
 unfoldable pub associations : Unit {0}
-unfolding associationOf held matching bodyServes matches firstFrom entryFor planFor steps stored afterStores
+unfolding namingOf associationOf held matching bodyServes matches firstFrom entryFor planFor steps stored afterStores
 associations = tt
 
 unfoldable pub replies : Unit {0}
-unfolding service securedFrame fieldIn textIn numberIn clearLength first seen securingTests securing checkingTests checking
+unfolding service numberUnder securedFrame fieldIn textIn numberIn clearLength first seen securingTests securing checkingTests checking
 replies = tt
 
 unfoldable pub calls : Unit {0}
@@ -69,5 +78,5 @@ unfolding imageWith securedC clearTc room
 examples = tt
 
 unfoldable pub everything : Unit {0}
-unfolding octets frames closings forms images associations replies calls examples
+unfolding octets frames closings forms images keyParts associations replies calls examples
 everything = tt

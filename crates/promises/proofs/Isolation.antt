@@ -7,7 +7,8 @@ use mathlib.Core.Bool.{Bool, true, false, true≢false}
 use mathlib.Core.List.{List}
 use native.Mathlib.Decide.{ℕ-discrete}
 use lib.ListN.{length}
-use Rattle.association.specs.Association.{associationOf, held, heldIn, isNone, theOne, matching, indexOf}
+use Rattle.octets.proofs.Parts.{length-part}
+use Rattle.association.specs.Association.{namingOf, associationOf, held, heldIn, isNone, theOne, matching, indexOf}
 use Rattle.numbers.specs.Numbers.{agrees}
 use Rattle.bodies.specs.Layout.{layoutOf}
 use Rattle.image.specs.Image.{versionOf, countOf, bodyOf, keyOf, validImage, markIn}
@@ -16,7 +17,6 @@ use Rattle.numbers.specs.Stores.{storesFor}
 use Rattle.association.specs.declared.search.Found.the-variants as found
 use Rattle.association.specs.declared.search.Wanted.{Wanted}
 use Rattle.association.proofs.Finding.{found-matching}
-use Rattle.image.proofs.Places.{key-body}
 use Rattle.image.proofs.ValidImages.{valid}
 use Rattle.judging.specs.Wants.{wanted}
 use Rattle.link.specs.Calls.{left, securingReply, securingEntry, secured}
@@ -28,9 +28,9 @@ use Rattle.judging.proofs.Answered.{secures, checks, securing-size, checking-si
 use Rattle.link.proofs.Leaving.{left-done, left-refused, handed-result}
 use Rattle.link.proofs.Carried.{counted}
 use Rattle.judging.proofs.Searches.{none-found}
-use Rattle.promises.specs.Images.{wholeBodyAt, Serves}
+use Rattle.promises.specs.Images.{rowIn, spiAt, place, wholeBodyAt, Serves}
 use Rattle.promises.specs.Isolation.{Standing, SameEntry, both, neither, SameAnswer, Isolation}
-use Rattle.promises.proofs.Fields.{Places, places, body-is}
+use Rattle.promises.proofs.Fields.{Rows, rows, body-is, key-at, naming-at}
 use Rattle.promises.proofs.Readings.{spi-on}
 use Rattle.promises.proofs.Valids.{rules-valid, agreement-tested, serving, served}
 
@@ -73,24 +73,27 @@ checking-alike : (x y : Seen) (right : Bool) (said : Said) (frame : List ℕ) (r
 unfolding checking checkingTests
 checking-alike x y right said frame room a = cc
 
--- ---- the same octets of a body are the same key and mark, whatever the version
+-- ---- the same octets of a body are the same mark, whatever the version; and what names the association is the same
 
 module _ (s t : List ℕ) (i j : ℕ) (body : wholeBodyAt s i ≡ wholeBodyAt t j) where
-  abbrev here : Places (layoutOf (versionOf s))
-  here = places (versionOf s)
+  abbrev here : Rows (rowIn s) (layoutOf (versionOf s))
+  here = rows (versionOf s)
 
-  abbrev there : Places (layoutOf (versionOf t))
-  there = places (versionOf t)
+  abbrev there : Rows (rowIn t) (layoutOf (versionOf t))
+  there = rows (versionOf t)
 
   same-body : bodyOf s i ≡ bodyOf t j
   same-body = body-is s i ∙ body ∙ sym (body-is t j)
 
-  same-key : keyOf s i ≡ keyOf t j
-  same-key = cc (key-body s i, key-body t j, same-body, here .key, there .key)
+  same-size : rowIn s .body ≡ rowIn t .body
+  same-size = sym (length-part (place s i 0) (rowIn s .body) s) ∙ ap length body ∙ length-part (place t j 0) (rowIn t .body) t
 
   same-mark : markIn s i ≡ markIn t j
   unfolding markIn
-  same-mark = cc (same-body, here .mark, there .mark)
+  same-mark = cc (same-body, here .mark, there .mark, here .tail, there .tail, same-size)
+
+  same-naming : spiAt s i ≡ spiAt t j → namingOf s i ≡ namingOf t j
+  same-naming spi = cc (naming-at s i, naming-at t j, here .short, there .short, same-size, spi)
 
 -- ---- the two images show a call the same
 
@@ -120,9 +123,16 @@ module _ (s l t r : List ℕ) (here : Standing s l) (there : Standing t r) (dire
       (agreement-tested s l (here .octets) (here .agree) ∙ sym (agreement-tested t r (there .octets) (there .agree)))
     where
       by-entry : SameEntry s l t r direction said spi frame → validImage s ≡ validImage t → agrees s l ≡ agrees t r → Alike (seen s l w) (seen t r w)
-      by-entry (both i j a b body number) v g =
+      by-entry (both i j a b body key number) v g =
+          let keys : keyOf s i ≡ keyOf t j = key-at s i ∙ key ∙ sym (key-at t j) in
           rw (entry-of s l here i a, entry-of t r there j b)
-          (record { valid = v; agree = g; none = refl; held = cc (same-body s t i j body, same-key s t i j body); number = number })
+          (record {
+            valid = v;
+            agree = g;
+            none = refl;
+            held = cc (same-body s t i j body, keys, same-naming s t i j body (a .spis ∙ sym (b .spis)));
+            number = number;
+          })
       by-entry (neither a b) v g =
           let x : matching s l w ≡ matching t r w = none-found s l w (fails s a) ∙ sym (none-found t r w (fails t b)) in
           rw x (record { valid = v; agree = g; none = refl; held = refl; number = refl })
@@ -134,7 +144,7 @@ module _ (s l t r : List ℕ) (here : Standing s l) (there : Standing t r) (dire
   same-count : SameEntry s l t r direction said spi frame → isNone (seen t r w .found) ≡ false
       → (n : ℕ) → length (storesFor s (at s) n) ≡ length (storesFor t (at t) n)
   unfolding seen
-  same-count (both i j a b body number) some n =
+  same-count (both i j a b body key number) some n =
       rw (entry-of s l here i a, entry-of t r there j b)
       (counted s i n (tested s l here) (a .entry)
       ∙ ap (λ (m : ℕ). n / 64 - m) (same-mark s t i j body)

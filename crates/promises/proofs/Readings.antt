@@ -1,17 +1,23 @@
 -- What the definitions ask of a frame, and read in a clear one or, under what an association holds, in a secured one, is what the promises
 -- read in its octets: the kind's record described with its form.
 -- Assumes nothing.
-use Prim.Native.Nat.{ℕ, _+_, _-_}
+use Prim.Native.Nat.{ℕ, _+_, _-_, _*_, _^_, _≤_, _<_}
 use mathlib.Core.Path.{_≡_, refl, sym, ap, ap₂, _∙_}
-use mathlib.Core.Bool.{Bool, true, false, _&&_, _||_, not, cond}
+use mathlib.Core.Logic.{_≢_}
+use mathlib.Core.Bool.{Bool, true, false, _&&_, _||_, not, cond, and-false, true≢false}
 use mathlib.Core.List.{List, _++_}
+use native.Mathlib.Decide.{ℕ-discrete}
+use native.Mathlib.Nat.{add-zero}
 use native.Mathlib.Omega.{arith}
+use borrow.Author.Tests.{eq-eqb, ne-eqb}
 use lib.Dec.{eqb}
 use lib.ListN.{length, take, drop}
 use lib.Seq.{slice}
-use Rattle.octets.specs.Numbers.{numberAt, bytes}
+use Rattle.octets.specs.Numbers.{number, numberAt, bytes}
 use Rattle.octets.specs.Same.{same}
 use Rattle.octets.proofs.Alls.{and-left, and-right}
+use Rattle.octets.proofs.Numbers.{number-bytes}
+use Rattle.octets.proofs.Reading.{numberAt-add}
 use Rattle.octets.proofs.Sameness.{same-refl, same-eq}
 use Rattle.check_field.specs.CheckField.{checkField, rightField}
 use Rattle.check_field.proofs.Laws.{field-take}
@@ -25,14 +31,17 @@ use Rattle.frame.specs.Parts.{headerOf, clearContent, securityOf, securedConten
 use Rattle.frame.specs.Rules.{least, obeys}
 use Rattle.frame.proofs.Room.{obeyed, obeying}
 use Rattle.association.specs.declared.held.Held.{Held}
+use Rattle.numbers.specs.Numbers.{greatest}
 use Rattle.services.specs.SecurityHeader.{securityLength}
 use Rattle.protection.specs.Protection.{coveredBefore, spiIn, fieldIn, textIn, numberIn, macRight}
 use Rattle.services.specs.Services.{authentication, authenticatedEncryption, service}
+use Rattle.services.proofs.Chosen.{encrypts, signs}
 use Rattle.judging.specs.Said.{Said, kindSaid}
 use Rattle.protection.proofs.Wire.{number-read}
 use Rattle.promises.specs.Forms.{formSaid, underMask}
 use Rattle.promises.specs.Frames.{headerSize, checkFieldSize, trailerSize, beforeField, controlOn, dataInClear, fieldSize, securitySize, spiOn, fieldOn, numberOn}
-use Rattle.promises.specs.Frames.{textOn, macOn, goingOut, comingIn, rightMac, FrameRules, RightField}
+use Rattle.promises.specs.Frames.{textOn, macOn, goingOut, comingIn, rightMac, FrameRules, RightField, Opens}
+use Rattle.promises.specs.Versions.{Version, namesSpi}
 use Rattle.promises.proofs.Forms.{Describes, described, under-mask}
 
 -- ---- header and trailer, and the rules of a frame, answer 3
@@ -134,11 +143,6 @@ module _ (h : Held) (said : Said) (frame : List ℕ) where
   pub security-size : securityLength h ≡ securitySize (h .service)
   security-size = ap (λ (n : ℕ). 2 + n) (field-size (h .service))
 
-  pub number-on : numberIn h (kindSaid said) frame ≡ numberOn (h .service) said frame
-  number-on =
-      number-read h (kindSaid said) frame
-      ∙ rw (header-size said frame) (ap (λ (n : ℕ). numberAt (kindSaid said .header frame + 2) n frame) (field-size (h .service)))
-
   pub text-on : textIn h (kindSaid said) frame ≡ textOn (h .service) said frame
   unfolding textIn securedContent
   text-on =
@@ -174,6 +178,107 @@ module _ (h : Held) (said : Said) (frame : List ℕ) where
       (ap (λ (m : List ℕ). same m (slice (end - 16) end frame))
       (made (eqb (h .service) 2) (h .mask) (h .key) (k .header frame) (end - 16)
       (under-mask (h .mask) (take (k .header frame) frame) six)))
+
+-- ---- its number, under what names the association
+
+module _ (h : Held) (said : Said) (frame : List ℕ) where
+  abbrev at : ℕ
+  at = headerSize said frame
+
+  abbrev n : ℕ
+  n = numberIn h (kindSaid said) frame
+
+  signed : h .service ≢ 2 → n ≡ numberAt (at + 2) 4 frame
+  unfolding number
+  signed other =
+      number-read h (kindSaid said) frame ∙ rw (signs (h .service) other, ← header-size said frame) (ap (λ (p : ℕ). numberAt p 4 frame) (add-zero (at + 2)))
+
+  encrypted : h .service ≡ 2 → h .naming < 2 ^ 16
+      → n ≡ cond (eqb (numberAt (at + 2) 4 frame) (h .naming)) (numberAt (at + 6) 4 frame * 4294967296 + numberAt (at + 10) 4 frame) 0
+  encrypted two small =
+      let p : at + 2 + 4 ≡ at + 6 = omega arith in
+      let q : at + 6 + 4 ≡ at + 10 = omega arith in
+      number-read h (kindSaid said) frame
+      ∙ rw (encrypts (h .service) two, ← header-size said frame, number-bytes 4 (h .naming) (omega arith))
+      (ap (λ (x : ℕ). cond (eqb (numberAt (at + 2) 4 frame) (h .naming)) x 0)
+      (ap (λ (b : ℕ). numberAt b 8 frame) p
+      ∙ numberAt-add (at + 6) 4 4 frame
+      ∙ ap (λ (c : ℕ). numberAt (at + 6) 4 frame * 4294967296 + numberAt c 4 frame) q))
+
+  -- the IV as one number
+  in-three : numberAt (at + 2) 12 frame
+      ≡ (numberAt (at + 2) 4 frame * 4294967296 + numberAt (at + 6) 4 frame) * 4294967296 + numberAt (at + 10) 4 frame
+  in-three =
+      let p : at + 2 + 4 ≡ at + 6 = omega arith in
+      let q : at + 2 + 8 ≡ at + 10 = omega arith in
+      numberAt-add (at + 2) 8 4 frame
+      ∙ ap₂ (λ (x c : ℕ). x * 4294967296 + numberAt c 4 frame)
+      (numberAt-add (at + 2) 4 4 frame ∙ ap (λ (b : ℕ). numberAt (at + 2) 4 frame * 4294967296 + numberAt b 4 frame) p) q
+
+  module _ (row : Version) (spi : ℕ) (small : spi < 2 ^ 16) (naming : h .naming ≡ cond (row .keyPart) spi 0) where
+    small-name : (t : Bool) → row .keyPart ≡ t → h .naming < 2 ^ 16
+    small-name true e = let name : h .naming ≡ spi = naming ∙ rw e in omega arith
+    small-name false e = let name : h .naming ≡ 0 = naming ∙ rw e in omega arith
+
+    unnamed : h .service ≢ 2 → namesSpi row (h .service) ≡ false
+    unnamed other = rw (ne-eqb (h .service) 2 other) (and-false (row .keyPart))
+
+    opens-so : namesSpi row (h .service) ≡ false → Opens row (h .service) said spi frame
+    opens-so no-name =
+        record { spis = λ e. absurd (true≢false (sym e ∙ no-name)); zeros = λ e. absurd (true≢false (sym e ∙ no-name)) }
+
+    -- a number that a window can take is the one on the frame, behind what the IV begins with
+    pub number-kept : 0 < n → n ≤ greatest → Opens row (h .service) said spi frame × (numberOn row (h .service) said frame ≡ n)
+    number-kept some most = by-service (ℕ-discrete (h .service) 2) (row .keyPart) refl
+      where
+        goal : Type 0
+        goal = Opens row (h .service) said spi frame × (numberOn row (h .service) said frame ≡ n)
+
+        by-name : (two : h .service ≡ 2) → (t : Bool) → row .keyPart ≡ t → Dec (numberAt (at + 2) 4 frame ≡ h .naming) → goal
+        by-name two t e (no other) =
+            let here : h .naming < 2 ^ 16 = small-name t e in
+            let z : n ≡ 0 = encrypted two here ∙ rw (ne-eqb (numberAt (at + 2) 4 frame) (h .naming) other) in
+            absurd (omega arith)
+        by-name two true e (yes same) =
+            let name : h .naming ≡ spi = naming ∙ rw e in
+            let v : n ≡ numberAt (at + 6) 4 frame * 4294967296 + numberAt (at + 10) 4 frame =
+            encrypted two (omega arith) ∙ rw (eq-eqb (numberAt (at + 2) 4 frame) (h .naming) same)
+            in
+            let named : namesSpi row (h .service) ≡ true = rw (e, eq-eqb (h .service) 2 two) in
+            (record { spis = λ t. same ∙ name; zeros = λ t. omega arith }, rw named (omega arith))
+        by-name two false e (yes same) =
+            let name : h .naming ≡ 0 = naming ∙ rw e in
+            let v : n ≡ numberAt (at + 6) 4 frame * 4294967296 + numberAt (at + 10) 4 frame =
+            encrypted two (omega arith) ∙ rw (eq-eqb (numberAt (at + 2) 4 frame) (h .naming) same)
+            in
+            let no-name : namesSpi row (h .service) ≡ false = rw e in
+            (opens-so no-name, rw (no-name, eq-eqb (h .service) 2 two) (omega (arith, in-three)))
+
+        by-service : Dec (h .service ≡ 2) → (t : Bool) → row .keyPart ≡ t → goal
+        by-service (no other) t e = (opens-so (unnamed other), rw (unnamed other, ne-eqb (h .service) 2 other) (sym (signed other)))
+        by-service (yes two) t e = by-name two t e (ℕ-discrete (numberAt (at + 2) 4 frame) (h .naming))
+
+    pub number-right : Opens row (h .service) said spi frame → numberOn row (h .service) said frame ≤ greatest
+        → n ≡ numberOn row (h .service) said frame
+    number-right opens most = by-service (ℕ-discrete (h .service) 2) (row .keyPart) refl
+      where
+        by-service : Dec (h .service ≡ 2) → (t : Bool) → row .keyPart ≡ t → n ≡ numberOn row (h .service) said frame
+        by-service (no other) t e = rw (unnamed other, ne-eqb (h .service) 2 other) (signed other)
+        by-service (yes two) true e =
+            let name : h .naming ≡ spi = naming ∙ rw e in
+            let named : namesSpi row (h .service) ≡ true = rw (e, eq-eqb (h .service) 2 two) in
+            let zero : numberAt (at + 6) 4 frame ≡ 0 = opens .zeros named in
+            rw named
+            (encrypted two (omega arith)
+            ∙ rw (eq-eqb (numberAt (at + 2) 4 frame) (h .naming) (opens .spis named ∙ sym name)) (omega arith))
+        by-service (yes two) false e =
+            let name : h .naming ≡ 0 = naming ∙ rw e in
+            let no-name : namesSpi row (h .service) ≡ false = rw e in
+            let few : numberAt (at + 2) 12 frame ≤ greatest = rw (no-name, eq-eqb (h .service) 2 two) at most in
+            let nothing : numberAt (at + 2) 4 frame ≡ 0 = omega (arith, in-three) in
+            rw (no-name, eq-eqb (h .service) 2 two)
+            (encrypted two (omega arith)
+            ∙ rw (eq-eqb (numberAt (at + 2) 4 frame) (h .naming) (nothing ∙ sym name)) (omega (arith, in-three)))
 
 -- the data, both ways
 pub going-out : (number : ℕ) (key field clear : List ℕ) → service number .goingOut key field clear ≡ goingOut number key field clear

@@ -3,7 +3,7 @@
 -- Assumes nothing.
 use Prim.Native.Nat.{ℕ, _+_, _^_, _≤_, _<_}
 use mathlib.Core.Path.{_≡_, refl, sym, ap, ap₂, _∙_}
-use mathlib.Core.Bool.{true, false, _&&_}
+use mathlib.Core.Bool.{Bool, true, false, cond, _&&_}
 use mathlib.Core.List.{List}
 use native.Mathlib.Omega.{arith}
 use borrow.Author.Tests.{lt-ltb, le-leb}
@@ -28,14 +28,14 @@ use Rattle.link.proofs.Leaving.{left-done, handed-result}
 use Rattle.judging.proofs.Searches.{Finds, finds-at}
 use Rattle.protection.proofs.Wire as wire
 use Rattle.promises.specs.Frames as words
-use Rattle.promises.specs.Images.{countIn, spiAt, serviceAt, windowAt, lastAt, ImageRules, Agreeing, InWindow, Serves}
+use Rattle.promises.specs.Images.{rowIn, countIn, spiAt, serviceAt, windowAt, lastAt, ImageRules, Agreeing, InWindow, Serves}
 use Rattle.promises.specs.RoundTrip.{OtherEnd, Released, RoundTrip}
-use Rattle.promises.proofs.Fields.{service-at, window-at, mask-at, key-at}
+use Rattle.promises.proofs.Fields.{service-at, window-at, mask-at, key-at, naming-at}
 use Rattle.promises.proofs.Readings.{form, data-in-clear, spi-on}
 use Rattle.promises.proofs.Sent as sent
 use Rattle.promises.proofs.Valids.{rules-valid, agreement-tested, served}
 
--- ---- the two associations hold the same service, mask and key
+-- ---- the two associations hold the same service, mask and key, and make the IV alike
 
 module _ (here sendNumbers there numbers : List ℕ) (e i : ℕ) (said : Said) (frame : List ℕ)
     (other : OtherEnd said frame here e there numbers i) where
@@ -56,6 +56,12 @@ module _ (here sendNumbers there numbers : List ℕ) (e i : ℕ) (said : Said) (
   same-key : g .key ≡ h .key
   unfolding associationOf held
   same-key = key-at there i ∙ other .key ∙ sym (key-at here e)
+
+  same-naming : h .service ≡ 2 → g .naming ≡ h .naming
+  unfolding associationOf held
+  same-naming two =
+      let alike : rowIn there .keyPart ≡ rowIn here .keyPart = other .iv (sym (service-at here e) ∙ two) in
+      naming-at there i ∙ ap₂ (λ (t : Bool) (spi : ℕ). cond t spi 0) alike (other .spi) ∙ sym (naming-at here e)
 
 -- ---- the check of a frame that the receiver's association would have made
 
@@ -184,7 +190,7 @@ round-trip = record { released = both-ends }
         → e < countIn here
         → spiAt here e ≡ spi
         → OtherEnd said frame here e there numbers i
-        → InWindow (lastAt numbers i) (windowAt there i) (words.numberOn (serviceAt here e) said (handed x))
+        → InWindow (lastAt numbers i) (windowAt there i) (words.numberOn (rowIn here) (serviceAt here e) said (handed x))
         → length (words.dataInClear said frame) ≤ length output
         → Released (words.dataInClear said frame) (checked there numbers said (handed x) output)
     both-ends here sendNumbers said spi frame sendOutput there numbers output e i octets done-so below spis other window room =
@@ -203,7 +209,7 @@ round-trip = record { released = both-ends }
         let out : handed (secured here sendNumbers said spi frame sendOutput) ≡ securedFrame g (kindSaid said) spi n frame =
         sent.out here sendNumbers said spi frame sendOutput e below spis done-so
         ∙ wire.alike-frame h g (kindSaid said) spi n frame services (same-mask here sendNumbers there numbers e i said frame other)
-        (same-key here sendNumbers there numbers e i said frame other)
+        (same-key here sendNumbers there numbers e i said frame other) (same-naming here sendNumbers there numbers e i said frame other)
         in
         let serves : Serves there 2 said spi frame i =
         record {

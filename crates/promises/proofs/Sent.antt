@@ -24,7 +24,7 @@ use Rattle.association.specs.declared.held.Held.{Held}
 use Rattle.judging.specs.Wants.{securingWants}
 use Rattle.link.specs.Calls.{handed, done, securingEntry, securingReply, secured, securedCut}
 use Rattle.services.specs.SecurityHeader.{serviceIn}
-use Rattle.protection.specs.Protection.{securedLength, securedFrame}
+use Rattle.protection.specs.Protection.{securedLength, securedFrame, numberIn}
 use Rattle.judging.specs.Replies.{seen, Reply, securing}
 use Rattle.judging.specs.Said.{Said, kindSaid}
 use Rattle.judging.proofs.Answered.{Secures, secures}
@@ -33,12 +33,12 @@ use Rattle.judging.proofs.Searches.{finds}
 use Rattle.protection.proofs.Wire as wire
 use Rattle.promises.specs.Forms.{formSaid}
 use Rattle.promises.specs.Frames as words
-use Rattle.promises.specs.Frames.{SecuredFrom}
-use Rattle.promises.specs.Images.{place, serviceAt, maskAt, keyOctetsAt, lastAt}
+use Rattle.promises.specs.Frames.{SecuredFrom, Opens}
+use Rattle.promises.specs.Images.{rowIn, place, serviceAt, maskAt, keyOctetsAt, lastAt}
 use Rattle.promises.proofs.Fields.{service-at, mask-at, key-at}
 use Rattle.promises.proofs.Readings.{form, header-size, frame-kept, field-kept, control-on, data-in-clear}
-use Rattle.promises.proofs.Readings.{security-size, spi-on, number-on, text-on, field-on, mac-right, going-out}
-use Rattle.promises.proofs.Used.{Used, only-entry, send-number, send-used}
+use Rattle.promises.proofs.Readings.{security-size, spi-on, text-on, field-on, mac-right, going-out}
+use Rattle.promises.proofs.Used.{Used, only-entry, held-kept, send-number, send-used}
 
 module _ (image numbers : List ℕ) (said : Said) (spi : ℕ) (frame output : List ℕ) (e : ℕ) (below : e < countOf image) (spis : spiOf image e ≡ spi)
     (done-so : secured image numbers said spi frame output .answer ≡ 0) where
@@ -121,7 +121,17 @@ module _ (image numbers : List ℕ) (said : Said) (spi : ℕ) (frame output : Li
       ∙ ap (λ (s : List ℕ). octet s j) (wire.header-read h (kindSaid said) (lawful (said .checkField) (said .kind)) spi n frame clear fits)
       ∙ rw long (form said .copied (securedLength h frame) frame j fits (omega arith) below-header)
 
-  secured-from : length (h .mask) ≡ 6 → SecuredFrom (h .service) said spi (lastAt numbers e + 1) (h .mask) (h .key) frame S
+  read-back : numberIn h (kindSaid said) S ≡ lastAt numbers e + 1
+  read-back = wire.number-secured h (kindSaid said) (lawful (said .checkField) (said .kind)) spi (lastAt numbers e + 1) frame clear fits small
+
+  named : Opens (rowIn image) (h .service) said spi S × (words.numberOn (rowIn image) (h .service) said S ≡ lastAt numbers e + 1)
+  unfolding associationOf held
+  named =
+      let k = held-kept image numbers e (used .valid) below said S (omega (arith, read-back)) (omega (arith, read-back, small)) in
+      subst (λ (c : ℕ). Opens (rowIn image) c said spi S × (words.numberOn (rowIn image) c said S ≡ lastAt numbers e + 1))
+      (sym (service-at image e)) (rw spis at (k .0), k .1 ∙ read-back)
+
+  secured-from : length (h .mask) ≡ 6 → SecuredFrom (rowIn image) (h .service) said spi (lastAt numbers e + 1) (h .mask) (h .key) frame S
   secured-from six =
       let n = lastAt numbers e + 1 in
       let long = wire.length-secured h (kindSaid said) (lawful (said .checkField) (said .kind)) spi n frame clear fits in
@@ -130,7 +140,8 @@ module _ (image numbers : List ℕ) (said : Said) (spi : ℕ) (frame output : Li
         rules = frame-kept said S true (wire.obeys-secured h (kindSaid said) (lawful (said .checkField) (said .kind)) spi n frame clear fits);
         header = λ j below-header. header-octet j (omega (arith, header-size said frame));
         spis = spi-on said S ∙ wire.spi-secured h (kindSaid said) (lawful (said .checkField) (said .kind)) spi n frame clear fits small-spi;
-        number = sym (number-on h said S) ∙ wire.number-secured h (kindSaid said) (lawful (said .checkField) (said .kind)) spi n frame clear fits small;
+        opens = named .0;
+        number = named .1;
         text =
             sym (text-on h said S)
             ∙ wire.text-read h (kindSaid said) (lawful (said .checkField) (said .kind)) spi n frame clear fits
@@ -145,7 +156,7 @@ module _ (image numbers : List ℕ) (said : Said) (spi : ℕ) (frame output : Li
         field = field-kept said S (wire.field-right h (kindSaid said) (lawful (said .checkField) (said .kind)) spi n frame clear fits);
       }
 
-  pub made : SecuredFrom (serviceAt image e) said spi (lastAt numbers e + 1) (maskAt image e) (keyOctetsAt image e) frame
+  pub made : SecuredFrom (rowIn image) (serviceAt image e) said spi (lastAt numbers e + 1) (maskAt image e) (keyOctetsAt image e) frame
       (handed (secured image numbers said spi frame output))
   unfolding associationOf held
   made =

@@ -23,13 +23,13 @@ use Rattle.link.specs.Calls.{done}
 use Rattle.judging.specs.Replies.{Reply}
 use Rattle.judging.specs.Said.{Said}
 use Rattle.link.proofs.Leaving.{handed-result}
-use Rattle.promises.specs.Images.{place, lastAt}
+use Rattle.promises.specs.Images.{markPlace, lastAt}
 use Rattle.promises.specs.Leaves.{MarkAlone, Leaves}
 use Rattle.promises.proofs.Fields.{mark-place}
 use Rattle.promises.proofs.Used.{Used, planned}
 use Rattle.promises.proofs.Valids.{code-of-mark, rules-kept, agreement}
 
-pub outside : (image : List ℕ) (e p : ℕ) → (p < place image e 48) ⊎ (place image e 52 ≤ p) → Outside (markAt image e) 4 p
+pub outside : (image : List ℕ) (e p : ℕ) → (p < markPlace image e) ⊎ (markPlace image e + 4 ≤ p) → Outside (markAt image e) 4 p
 outside image e p (inl h) = inl (omega (arith, mark-place image e))
 outside image e p (inr h) = inr (omega (arith, mark-place image e))
 

@@ -1,18 +1,22 @@
--- Two images that differ in marks alone have the same count and the same directions; and so have the first and the last of several.
+-- Two images that differ in marks alone have the same version, count and directions; and so have the first and the last of several.
 -- Assumes nothing.
 use Prim.Native.Nat.{ℕ, _+_, _*_, _≤_, _<_}
-use mathlib.Core.Path.{_≡_, refl, ap, _∙_}
+use mathlib.Core.Path.{_≡_, refl, ap, ap₂, _∙_}
 use mathlib.Core.Logic.{_⊎_, inl, inr}
 use mathlib.Core.List.{List}
 use native.Mathlib.Decide.{decLt}
+use native.Mathlib.Nat.{mul-le-mul-left}
 use native.Mathlib.Omega.{arith}
 use lib.ListN.{length}
 use Rattle.octets.specs.Lists.{octet}
-use Rattle.promises.specs.Images.{countIn, place, directionAt}
+use Rattle.bodies.proofs.Layouts.{ends-before}
+use Rattle.promises.specs.Images.{rowIn, versionIn, countIn, place, markPlace, directionAt}
+use Rattle.promises.specs.Versions.{rowOf}
+use Rattle.promises.proofs.Fields.{rows}
 
 -- a place outside the mark of every entry
 abbrev pub Unmarked : List ℕ → ℕ → Type 0
-Unmarked image p = (i : ℕ) → i < countIn image → (p < place image i 48) ⊎ (place image i 52 ≤ p)
+Unmarked image p = (i : ℕ) → i < countIn image → (p < markPlace image i) ⊎ (markPlace image i + 4 ≤ p)
 
 pub record Same (before image : List ℕ) : Type 0 where
   pub size : length image ≡ length before
@@ -23,31 +27,43 @@ same-itself image = record { size = refl; elsewhere = λ p u. refl }
 
 -- the contents end before the first body
 in-contents : (image : List ℕ) (p : ℕ) → p < 2 + 4 * countIn image → Unmarked image p
-in-contents image p h i below = inl (omega arith)
+in-contents image p h i below = inl (omega (arith, rows (versionIn image) .begins))
 
--- and in a body 48 octets stand before the mark
-in-body : (image : List ℕ) (e j : ℕ) → j < 48 → Unmarked image (place image e j)
+-- and in a body the fields stand before the mark
+in-body : (image : List ℕ) (e j : ℕ) → j < 18 → Unmarked image (place image e j)
 in-body image e j h i below = by-place (decLt i e)
   where
-    by-place : Dec (i < e) → (place image e j < place image i 48) ⊎ (place image i 52 ≤ place image e j)
-    by-place (yes l) = inr (omega arith)
-    by-place (no l) = inl (omega arith)
+    before : (a b : ℕ) → a ≤ b → rowIn image .body * a ≤ rowIn image .body * b
+    before a b l = mul-le-mul-left (rowIn image .body) l
+
+    by-place : Dec (i < e) → (place image e j < markPlace image i) ⊎ (markPlace image i + 4 ≤ place image e j)
+    by-place (yes l) = inr (omega (arith, ends-before (rowIn image .body) i e l, rows (versionIn image) .inside))
+    by-place (no l) = inl (omega (arith, rows (versionIn image) .holds, before e i (omega arith)))
 
 module _ (before image : List ℕ) (same : Same before image) where
+  pub version-same : versionIn image ≡ versionIn before
+  version-same = same .elsewhere 0 (in-contents before 0 (omega arith))
+
   pub count-same : countIn image ≡ countIn before
   count-same = same .elsewhere 1 (in-contents before 1 (omega arith))
 
+  -- everything stands where it stood
+  pub place-same : (e j : ℕ) → place image e j ≡ place before e j
+  place-same e j = ap₂ (λ (v k : ℕ). rowOf v .front + 4 * k + rowOf v .body * e + j) version-same count-same
+
+  pub mark-place-same : (e : ℕ) → markPlace image e ≡ markPlace before e
+  mark-place-same e = place-same e (rowIn image .mark) ∙ ap (λ (v : ℕ). place before e (rowOf v .mark)) version-same
+
   pub direction-same : (e : ℕ) → directionAt image e ≡ directionAt before e
   direction-same e =
-      ap (λ (k : ℕ). octet image (2 + 4 * k + 52 * e + 2)) count-same
-      ∙ same .elsewhere (place before e 2) (in-body before e 2 (omega arith))
+      ap (octet image) (place-same e 2) ∙ same .elsewhere (place before e 2) (in-body before e 2 (omega arith))
 
   unmarked-same : (p : ℕ) → Unmarked before p → Unmarked image p
   unmarked-same p u i below = by-side (u i (omega (arith, count-same)))
     where
-      by-side : (p < place before i 48) ⊎ (place before i 52 ≤ p) → (p < place image i 48) ⊎ (place image i 52 ≤ p)
-      by-side (inl h) = inl (omega (arith, count-same))
-      by-side (inr h) = inr (omega (arith, count-same))
+      by-side : (p < markPlace before i) ⊎ (markPlace before i + 4 ≤ p) → (p < markPlace image i) ⊎ (markPlace image i + 4 ≤ p)
+      by-side (inl h) = inl (omega (arith, mark-place-same i))
+      by-side (inr h) = inr (omega (arith, mark-place-same i))
 
   pub same-then : (last : List ℕ) → Same image last → Same before last
   same-then last next =

@@ -6,18 +6,30 @@ use mathlib.Core.List.{List}
 use native.Mathlib.Omega.{arith}
 use Rattle.octets.specs.Numbers.{numberAt}
 use Rattle.octets.proofs.Numbers.{numberAt-same}
-use Rattle.promises.specs.Images.{countIn, place, codeAt}
+use Rattle.promises.specs.Images.{rowIn, countIn, codeAt}
 use Rattle.promises.specs.Upgrade.{Upgraded, Upgrading}
+use Rattle.promises.specs.Versions.{first, second, rowOf}
 
 module _ (before after : List ℕ) (u : Upgraded before after) where
+  row-before : rowIn before ≡ first
+  unfolding rowOf
+  row-before = ap rowOf (u .from)
+
+  row-after : rowIn after ≡ second
+  unfolding rowOf
+  row-after = ap rowOf (u .to)
+
   same-count : countIn after ≡ countIn before
-  same-count = u .elsewhere 1 (omega arith) (λ i below tm same. omega arith)
+  same-count = u .elsewhere 1 (omega arith) (λ i below tm same. let s = rw row-before at same in omega arith)
 
   same-code : (i : ℕ) → codeAt after i ≡ codeAt before i
   same-code i =
-      ap (λ (k : ℕ). numberAt (2 + 4 * k + 52 * i + 48) 4 after) same-count
-      ∙ numberAt-same (place before i 48) 4 after before
-      (λ d small. u .elsewhere (place before i 48 + d) (omega arith) (λ j below tm same. omega arith))
+      let at : ℕ = 2 + 4 * countIn before + 52 * i + 48 in
+      rw (row-after, row-before, same-count)
+      (numberAt-same at 4 after before
+      (λ d small.
+      u .elsewhere (at + d) (omega arith)
+      (λ j below tm same. let s : at + d ≡ 2 + 4 * countIn before + 52 * j + 6 = rw row-before at same in omega arith)))
 
 pub upgrading : Upgrading
 upgrading =

@@ -1,7 +1,7 @@
 -- What a call that answers 0 used: an entry with that SPI and direction, a number above the entry's last and at most 1,024 above it, and
 -- as many stores as the mark has to rise.
 -- Assumes nothing.
-use Prim.Native.Nat.{ℕ, _+_, _-_, _/_, _≤_, _<_}
+use Prim.Native.Nat.{ℕ, _+_, _-_, _/_, _^_, _≤_, _<_}
 use mathlib.Core.Path.{_≡_, refl, sym, ap, _∙_}
 use mathlib.Core.Bool.{Bool, true}
 use mathlib.Core.List.{List}
@@ -22,10 +22,10 @@ use Rattle.judging.proofs.Answered.{secures, checks, securing-size, checking-si
 use Rattle.link.proofs.Carried.{counted}
 use Rattle.judging.proofs.Searches.{finds}
 use Rattle.link.proofs.Small.{window-small}
-use Rattle.promises.specs.Frames.{spiOn, numberOn}
-use Rattle.promises.specs.Images.{serviceAt, lastAt, Serves}
-use Rattle.promises.proofs.Fields.{service-at}
-use Rattle.promises.proofs.Readings.{spi-on, number-on}
+use Rattle.promises.specs.Frames.{spiOn, numberOn, Opens}
+use Rattle.promises.specs.Images.{rowIn, serviceAt, lastAt, Serves}
+use Rattle.promises.proofs.Fields.{service-at, naming-at}
+use Rattle.promises.proofs.Readings.{spi-on, number-kept, number-right}
 use Rattle.promises.proofs.Valids.{serving}
 
 pub record Used (image numbers : List ℕ) (direction : ℕ) (said : Said) (spi : ℕ) (frame : List ℕ) (e : ℕ) (room : ℕ) (q : Reply) : Type 0 where
@@ -59,10 +59,26 @@ module _ (image numbers : List ℕ) (e : ℕ) where
   unfolding associationOf
   number-of = refl
 
-  pub held-number : (said : Said) (frame : List ℕ) → numberIn (heldIn a) (kindSaid said) frame ≡ numberOn (serviceAt image e) said frame
-  unfolding associationOf held
-  held-number said frame =
-      number-on (heldIn a) said frame ∙ ap (λ (s : ℕ). numberOn s said frame) (service-at image e)
+  -- a number of a frame that a window can take is the one behind what the entry's field begins with
+  module _ (passed : validImage image ≡ true) (below : e < countOf image) (said : Said) (frame : List ℕ) where
+    small-spi : spiOf image e < 2 ^ 16
+    small-spi = omega (arith, valid image passed .entry e below .spi .1)
+
+    pub held-kept : let n = numberIn (heldIn a) (kindSaid said) frame in
+        0 < n → n ≤ greatest
+        → Opens (rowIn image) (serviceAt image e) said (spiOf image e) frame × (numberOn (rowIn image) (serviceAt image e) said frame ≡ n)
+    unfolding associationOf held
+    held-kept some most =
+        rw (← service-at image e) (number-kept (heldIn a) said frame (rowIn image) (spiOf image e) small-spi (naming-at image e) some most)
+
+    pub held-right : Opens (rowIn image) (serviceAt image e) said (spiOf image e) frame
+        → numberOn (rowIn image) (serviceAt image e) said frame ≤ greatest
+        → numberIn (heldIn a) (kindSaid said) frame ≡ numberOn (rowIn image) (serviceAt image e) said frame
+    unfolding associationOf held
+    held-right opens most =
+        rw (← service-at image e)
+        (number-right (heldIn a) said frame (rowIn image) (spiOf image e) small-spi (naming-at image e) (rw (service-at image e) opens)
+        (rw (service-at image e) most))
 
 module _ (image numbers : List ℕ) (said : Said) (spi : ℕ) (frame output : List ℕ) where
   abbrev q-send : Reply
@@ -108,14 +124,6 @@ module _ (right : Bool) (image numbers : List ℕ) (said : Said) (frame output :
   abbrev e-check : ℕ
   e-check = checkingEntry image said frame
 
-  pub check-number : q-check .answer ≡ 0 → q-check .number ≡ numberOn (serviceAt image e-check) said frame
-  unfolding checkingReply checking seen
-  check-number z =
-      let w = checkingWants said frame in
-      let ok = checks (seen image numbers w) right said frame (length output) z in
-      let f = finds image numbers w (ok .front .found) in
-      ap (λ (x : Association). numberIn (heldIn x) (kindSaid said) frame) (f .association) ∙ held-number image numbers e-check said frame
-
   pub check-used : q-check .answer ≡ 0 → Used image numbers 2 said (spiOn said frame) frame e-check (length output) q-check
   unfolding checkingReply checking seen associationOf
   check-used z =
@@ -142,3 +150,17 @@ module _ (right : Bool) (image numbers : List ℕ) (said : Said) (frame output :
         sized = checking-size see right said frame (length output);
         roomy = ok .under .roomy;
       }
+
+  pub check-number : q-check .answer ≡ 0 → q-check .number ≡ numberOn (rowIn image) (serviceAt image e-check) said frame
+  unfolding checkingReply checking seen
+  check-number z =
+      let w = checkingWants said frame in
+      let ok = checks (seen image numbers w) right said frame (length output) z in
+      let f = finds image numbers w (ok .front .found) in
+      let u = check-used z in
+      let same : q-check .number ≡ numberIn (heldIn (associationOf image numbers e-check)) (kindSaid said) frame =
+      ap (λ (x : Association). numberIn (heldIn x) (kindSaid said) frame) (f .association)
+      in
+      same
+      ∙ sym
+      (held-kept image numbers e-check (u .valid) (f .below) said frame (omega (arith, u .above, same)) (omega (arith, u .fits, same)) .1)

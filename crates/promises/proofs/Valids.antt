@@ -6,6 +6,7 @@ use mathlib.Core.Path.{_≡_, refl, sym, ap, ap₂, _∙_}
 use mathlib.Core.Bool.{Bool, true, false, not, cond, _&&_, _||_}
 use mathlib.Core.List.{List}
 use native.Mathlib.Nat.{add-zero}
+use native.Mathlib.Decide.{decLt}
 use native.Mathlib.Omega.{arith}
 use borrow.Author.Tests.{eqb-true, ltb-true, eq-eqb, ne-eqb, le-leb, lt-ltb}
 use lib.Dec.{eqb, leb, eqb·suc-zero}
@@ -17,7 +18,10 @@ use Rattle.kinds.specs.Kinds.{hasMap, kindOf, named}
 use Rattle.bodies.specs.Body.{serviceOf, kindIn, directionOf, stateOf, spacecraftOf, channelOf, holdsSet, mapOf, windowOf, maskOf}
 use Rattle.bodies.specs.Body.{channelOk, kindOk, windowFits, windowOk, bodyOk}
 use Rattle.marks.specs.Gray.{gray, ungray}
-use Rattle.image.specs.Image.{versionOf, countOf, spiOf, spiBefore, positionOf, bodyAt, bodyOf, imageSize, laidOut, entryOk, validImage}
+use Rattle.image.specs.Image.{versionOf, countOf, layout, spiOf, spiBefore, positionOf, bodyAt, bodyOf, imageSize, laidOut, entryOk, validImage}
+use Rattle.image.specs.Image.{partAt, keyCount, keyIn, keyIdIn, keyedOk, keysOk}
+use Rattle.keys.specs.Keys.{keyIdAt, keyStateAt, keyIndex, keyInState, idRises, keyOk, keyPartOk}
+use Rattle.keys.proofs.FoundKeys.{ValidKeys, valid-keys, index-has, index-of}
 use Rattle.bodies.specs.Layout.{layoutOf, versionOk}
 use Rattle.image.specs.Image.{markIn}
 use Rattle.numbers.specs.Numbers.{agrees}
@@ -26,13 +30,14 @@ use Rattle.association.specs.declared.search.Wanted.{Wanted}
 use Rattle.marks.proofs.GrayCode.{gray-lt, gray-below, gray-ungray, ungray-gray}
 use Rattle.numbers.proofs.LoadedNumbers.{agreed, agreeing}
 use Rattle.bodies.proofs.ValidBodies.{ValidBody}
-use Rattle.image.proofs.ValidImages.{Valid, valid, spi-rises}
+use Rattle.image.proofs.ValidImages.{Keyed, Valid, valid, spi-rises}
 use Rattle.judging.specs.Wants.{wanted}
 use Rattle.judging.specs.Said.{Said, kindSaid}
 use Rattle.promises.specs.Forms.{formOf}
-use Rattle.promises.specs.Images.{place, codeAt, lastAt, ServesChannel, BodyRules, ImageRules, Agreeing, Serves}
+use Rattle.promises.specs.Images.{place, markPlace, codeAt, lastAt, ServesChannel, BodyRules, KeyRules, ImageRules, sizeIn, Agreeing, Serves}
+use Rattle.promises.specs.Images.{keyCountIn, idOfKey, stateOfKey, HasId, KeyInState}
 use Rattle.promises.proofs.Fields.{service-at, kind-at, direction-at, state-at, spacecraft-at, channel-at, map-at, window-at}
-use Rattle.promises.proofs.Fields.{places, stands, last-mask-at, mark-is, set-at}
+use Rattle.promises.proofs.Fields.{rows, stands, last-mask-at, mark-is, set-at, part-place, key-count, key-id, key-state, key-id-at}
 use Rattle.promises.proofs.Forms.{Describes, described}
 use Rattle.promises.proofs.Readings.{form}
 
@@ -40,7 +45,7 @@ use Rattle.promises.proofs.Readings.{form}
 
 module _ (image : List ℕ) (octets : Octets image) (i : ℕ) where
   code-below : codeAt image i < 2 ^ 32
-  code-below = numberAt-lt (place image i 48) 4 image octets
+  code-below = numberAt-lt (markPlace image i) 4 image octets
 
   -- the code of an entry is that of its mark
   pub code-of-mark : codeAt image i ≡ gray (markIn image i)
@@ -70,22 +75,94 @@ has-map (suc (suc (suc (suc (suc n))))) =
 
 -- ---- the versions that there are
 
-known : (version : ℕ) → versionOk version ≡ true → (1 ≤ version) × (version ≤ 2)
+known : (version : ℕ) → versionOk version ≡ true → (1 ≤ version) × (version ≤ 3)
 unfolding layoutOf
 known zero e = let z : _≡_ {A = ℕ} 0 1 = cc in absurd (omega arith)
 known (suc zero) e = (omega arith, omega arith)
 known (suc (suc zero)) e = (omega arith, omega arith)
-known (suc (suc (suc n))) e =
-    let other : ℕ = suc (suc (suc n)) in
-    let same : other ≡ 1 = eqb-true other 1 (rw (ne-eqb other 2 (omega arith)) at e) in
+known (suc (suc (suc zero))) e = (omega arith, omega arith)
+known (suc (suc (suc (suc n)))) e =
+    let other : ℕ = suc (suc (suc (suc n))) in
+    let same : other ≡ 1 = eqb-true other 1 (rw (ne-eqb other 3 (omega arith), ne-eqb other 2 (omega arith)) at e) in
     absurd (omega arith)
 
-version-ok : (version : ℕ) → (1 ≤ version) × (version ≤ 2) → versionOk version ≡ true
+version-ok : (version : ℕ) → (1 ≤ version) × (version ≤ 3) → versionOk version ≡ true
 unfolding layoutOf
 version-ok zero h = absurd (omega arith)
 version-ok (suc zero) h = refl
 version-ok (suc (suc zero)) h = refl
-version-ok (suc (suc (suc n))) h = absurd (omega arith)
+version-ok (suc (suc (suc zero))) h = refl
+version-ok (suc (suc (suc (suc n)))) h = absurd (omega arith)
+
+-- ---- the keys
+
+module _ (image : List ℕ) where
+  abbrev at : ℕ
+  at = partAt image
+
+  abbrev count : ℕ
+  count = keyCount image
+
+  -- the size
+  pub size-is : imageSize image ≡ sizeIn image
+  unfolding imageSize
+  size-is = rw (rows (versionOf image) .keyPart, part-place image, key-count image)
+
+  below-count : (j : ℕ) → j < keyCountIn image → j < count
+  below-count j h = omega (arith, key-count image)
+
+  -- a search by ID finds a key that has it
+  pub key-there : (id : ℕ) → keyIndex image at count id < count → HasId image id (keyIndex image at count id)
+  key-there id h =
+      record { there = omega (arith, key-count image); ids = sym (key-id image (keyIndex image at count id)) ∙ index-has image at id count h }
+
+  pub key-found : (id state : ℕ) → keyIn image state id ≡ true → KeyInState image id state
+  unfolding keyInState
+  key-found id state e = (
+    keyIndex image at count id,
+    key-there id (ltb-true (keyIndex image at count id) count (search and-left)),
+    sym (key-state image (keyIndex image at count id))
+    ∙ eqb-true (keyStateAt image at (keyIndex image at count id)) state (search and-right),
+  )
+
+  -- and where the IDs rise, the only one
+  module _ (v : ValidKeys image at count) where
+    pub ids-rise : (i j : ℕ) → i < j → j < count → keyIdAt image at i < keyIdAt image at j
+    ids-rise i zero l h = absurd (omega arith)
+    ids-rise i (suc j) l h = by-place (decLt i j) (λ m. ids-rise i j m (omega arith))
+      where
+        by-place : Dec (i < j) → (i < j → keyIdAt image at i < keyIdAt image at j) → keyIdAt image at i < keyIdAt image at (suc j)
+        by-place (yes m) before = omega (arith, before m, v .rises j h)
+        by-place (no g) before = let e : i ≡ j = omega arith in rw e (v .rises j h)
+
+    pub found-key : (id j : ℕ) → HasId image id j → keyIndex image at count id ≡ j
+    found-key id j has =
+        ap (keyIndex image at count) (sym (has .ids) ∙ sym (key-id image j)) ∙ index-of image at count v j (below-count j (has .there))
+
+    pub key-in-state : (id state : ℕ) → KeyInState image id state → keyIn image state id ≡ true
+    unfolding keyInState
+    key-in-state id state (j, has, same) =
+        let e : keyIndex image at count id ≡ j = found-key id j has in
+        rw e (ap₂ _&&_ (lt-ltb j count (below-count j (has .there))) (eq-eqb (keyStateAt image at j) state (key-state image j ∙ same)))
+
+  module _ (few : keyCountIn image ≤ 64) (rising : (j k : ℕ) → j < k → k < keyCountIn image → idOfKey image j < idOfKey image k)
+      (state : (j : ℕ) → j < keyCountIn image → stateOfKey image j ≤ 2) where
+    id-ok : (k : ℕ) → k < keyCountIn image → idRises image at k ≡ true
+    id-ok zero h = refl
+    id-ok (suc k) h =
+        let here : suc k - 1 ≡ k = omega arith in
+        rw (eqb·suc-zero k, here, key-id image k, key-id image (suc k))
+        (lt-ltb (idOfKey image k) (idOfKey image (suc k)) (rising k (suc k) (omega arith) h))
+
+    key-ok : (k : ℕ) → k < count → keyOk image at k ≡ true
+    unfolding keyOk
+    key-ok k h =
+        let h2 : k < keyCountIn image = omega (arith, key-count image) in
+        ap₂ _&&_ (le-leb (keyStateAt image at k) 2 (rw (key-state image k) (state k h2))) (id-ok k h2)
+
+    pub part-ok : keyPartOk image at count ≡ true
+    unfolding keyPartOk
+    part-ok = ap₂ _&&_ (le-leb count 64 (omega (arith, key-count image))) (all-every count (keyOk image at) key-ok)
 
 -- ---- a valid image obeys the rules
 
@@ -110,19 +187,31 @@ module _ (image : List ℕ) (octets : Octets image) where
         mark = rw (code-of-mark image octets i) (gray-lt 26 (markIn image i) (b .mark));
       }
 
+  key-rules : Keyed image → KeyRules image
+  key-rules k =
+      record {
+        spi = k .spi;
+        position = k .position ∙ part-place image;
+        count = rw (← key-count image) (k .keys .few);
+        rising = λ i j l h.
+            rw (← key-id image i, ← key-id image j) (ids-rise image (k .keys) i j l (rw (key-count image) h));
+        state = λ j h. rw (← key-state image j) (k .keys .state j (rw (key-count image) h));
+        active = λ i h serves.
+            rw (← key-id-at image i) (key-found image (keyIdIn image i) 1 (k .serves i h (state-at image i ∙ serves)));
+      }
+
   pub rules-kept : validImage image ≡ true → ImageRules image
-  unfolding imageSize
   rules-kept passed =
       let v : Valid image = valid image passed in
-      let p = places (versionOf image) in
       record {
         version = known (versionOf image) (v .laid .version);
         count = v .laid .count;
-        size = v .laid .size ∙ rw (p .body, p .extra) (omega arith);
+        size = v .laid .size ∙ size-is image;
         spi = λ i h. v .entry i h .spi;
         rising = spi-rises image v;
         position = λ i h. v .entry i h .position ∙ sym (add-zero (bodyAt image i)) ∙ stands image i 0;
         body = λ i h. body-rules i (v .entry i h .body);
+        keys = λ has. key-rules (v .keyed (rows (versionOf image) .keyPart ∙ has));
       }
 
 -- ---- and one that obeys the rules is valid
@@ -216,16 +305,37 @@ module _ (image : List ℕ) (octets : Octets image) (rules : ImageRules image) w
       (eq-eqb (positionOf image i) (bodyAt image i) (rules .position i h ∙ sym (stands image i 0) ∙ add-zero (bodyAt image i)))
 
   laid-ok : laidOut image ≡ true
-  unfolding laidOut imageSize
+  unfolding laidOut
   laid-ok =
-      let p = places (versionOf image) in
       ap₂ _&&_ (ap₂ _&&_ (version-ok (versionOf image) (rules .version)) (le-leb (countOf image) 32 (rules .count)))
-      (eq-eqb (length image) _ (rules .size ∙ rw (p .body, p .extra) (omega arith)))
+      (eq-eqb (length image) (imageSize image) (rules .size ∙ sym (size-is image)))
+
+  -- each operational body names an active key
+  keyed-ok : KeyRules image → keyPartOk image (partAt image) (keyCount image) ≡ true → (i : ℕ) → i < countOf image → keyedOk image i ≡ true
+  keyed-ok k ok i h =
+      implied (eqb (stateOf (bodyOf image i)) 2) (keyIn image 1 (keyIdIn image i))
+      (λ serves.
+      key-in-state image (valid-keys image (partAt image) (keyCount image) ok) (keyIdIn image i) 1
+      (rw (key-id-at image i) (k .active i h (sym (state-at image i) ∙ eqb-true (stateOf (bodyOf image i)) 2 serves))))
+
+  keys-ok : keysOk image ≡ true
+  unfolding keysOk
+  keys-ok =
+      implied (layout image .keys) _
+      (λ has.
+      let k : KeyRules image = rules .keys (sym (rows (versionOf image) .keyPart) ∙ has) in
+      let ok : keyPartOk image (partAt image) (keyCount image) ≡ true = part-ok image (k .count) (k .rising) (k .state) in
+      ap₂ _&&_
+      (ap₂ _&&_
+      (ap₂ _&&_ (eq-eqb (spiOf image (countOf image)) 65535 (k .spi))
+      (eq-eqb (positionOf image (countOf image)) (partAt image) (k .position ∙ sym (part-place image)))) ok)
+      (all-every (countOf image) (keyedOk image) (keyed-ok k ok)))
 
   pub rules-valid : validImage image ≡ true
   unfolding validImage
   rules-valid =
-      ap₂ _&&_ laid-ok (all-every (countOf image) _ (λ i h. ap₂ _&&_ (entry-ok i h) (body-ok image octets i (rules .body i h))))
+      ap₂ _&&_
+      (ap₂ _&&_ laid-ok (all-every (countOf image) _ (λ i h. ap₂ _&&_ (entry-ok i h) (body-ok image octets i (rules .body i h))))) keys-ok
 
 -- ---- agreement
 

@@ -15,8 +15,9 @@ use Rattle.judging.specs.Said.{Said}
 use Rattle.judging.specs.declared.answers.Answer.{Answer}
 use Rattle.judging.specs.declared.answers.Answer.the-variants as answer
 use Rattle.promises.specs.Forms.{formSaid}
-use Rattle.promises.specs.Images.{ImageRules, Agreeing, InWindow, Serves, serviceAt, windowAt, maskAt, keyOctetsAt, lastAt}
-use Rattle.promises.specs.Frames.{FrameRules, RightField, headerSize, trailerSize, securitySize, spiOn, numberOn, textOn, macOn, rightMac}
+use Rattle.promises.specs.Images.{ImageRules, Agreeing, InWindow, Serves, rowIn, serviceAt, windowAt, maskAt, keyOctetsAt, lastAt}
+use Rattle.promises.specs.Frames.{FrameRules, RightField, Opens, headerSize, trailerSize, securitySize, spiOn, numberOn, textOn, macOn}
+use Rattle.promises.specs.Frames.{rightMac}
 
 -- ---- the table: a refusal reports length 0 and 0 stores
 
@@ -40,6 +41,8 @@ pub record Table : Type 0 where
   pub fourteen : reported answer.UnknownSpi ≡ reporting 14 0 0
   pub fifteen : reported answer.WrongState ≡ reporting 15 0 0
   pub sixteen : reported answer.BadValue ≡ reporting 16 0 0
+  pub seventeen : reported answer.UnknownKey ≡ reporting 17 0 0
+  pub eighteen : reported answer.WrongKeyState ≡ reporting 18 0 0
 
 -- ---- the first rule that is broken
 
@@ -83,13 +86,15 @@ securingRules image numbers said spi frame output =
     (rule answer.NumbersSpent (under (λ e. lastAt numbers e < 4294967295))
     noMore)))))))
 
--- in the order 1, 2, 3, 12, 4, 5, 6, 7, 8
+-- in the order 1, 2, 3, 12, 4, 5, 6, 7, 8; the last is also for an IV that begins as no IV of the entry does
 abbrev pub checkingRules : List ℕ → List ℕ → Said → List ℕ → List ℕ → Rules
 checkingRules image numbers said frame output =
-    let serves : ℕ → Type 0 = Serves image 2 said (spiOn said frame) frame in
+    let spi : ℕ = spiOn said frame in
+    let serves : ℕ → Type 0 = Serves image 2 said spi frame in
     let under : (ℕ → Type 0) → Type 0 = λ kept. (e : ℕ) → serves e → kept e in
     let least : ℕ → ℕ = λ e. headerSize said frame + securitySize (serviceAt image e) + 1 + 16 + trailerSize said frame in
     let text : ℕ → List ℕ = λ e. textOn (serviceAt image e) said frame in
+    let number : ℕ → ℕ = λ e. numberOn (rowIn image) (serviceAt image e) said frame in
     let right : ℕ → List ℕ = λ e. rightMac (serviceAt image e) said (maskAt image e) (keyOctetsAt image e) frame in
     rule answer.BadImage (ImageRules image)
     (rule answer.BadMarks (Agreeing image numbers)
@@ -99,7 +104,7 @@ checkingRules image numbers said frame output =
     (rule answer.TooShort (under (λ e. least e ≤ length frame))
     (rule answer.NoRoom (under (λ e. length (text e) ≤ length output))
     (rule answer.WrongMac (under (λ e. right e ≡ macOn said frame))
-    (rule answer.OutsideWindow (under (λ e. InWindow (lastAt numbers e) (windowAt image e) (numberOn (serviceAt image e) said frame)))
+    (rule answer.OutsideWindow (under (λ e. Opens (rowIn image) (serviceAt image e) said spi frame × InWindow (lastAt numbers e) (windowAt image e) (number e)))
     noMore))))))))
 
 pub record Answering : Type 0 where

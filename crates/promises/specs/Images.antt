@@ -1,11 +1,11 @@
--- Document 01, 'The image' and 'Managed numbers', and document 02, requests 2 and 5, in the octets of an image: where each field of an
+-- Document 01, 'The image' and 'Managed numbers', and document 02, requests 2, 5 and 9, in the octets of an image: where each field of an
 -- entry stands, what a valid image is, when numbers agree with it, and which entry serves a frame. The promises speak of an image in these
 -- words and not in those of the definitions that they are about, so that a definition which reads another octet or drops a rule breaks a
--- promise.
+-- promise. The numbers that differ from version to version are those of its row (`Versions`).
 -- Assumes nothing.
-use Prim.Native.Nat.{ℕ, _+_, _*_, _/_, _%_, _^_, _≤_, _<_}
+use Prim.Native.Nat.{ℕ, zero, suc, _+_, _*_, _/_, _%_, _^_, _≤_, _<_}
 use mathlib.Core.Path.{_≡_}
-use mathlib.Core.Bool.{Bool, true, false, _&&_}
+use mathlib.Core.Bool.{Bool, true, false, cond, _&&_}
 use mathlib.Core.List.{List}
 use lib.Dec.{eqb}
 use lib.ListN.{length, getD}
@@ -14,11 +14,15 @@ use Rattle.octets.specs.Numbers.{numberAt}
 use Rattle.octets.specs.Xor.{_⊕_}
 use Rattle.judging.specs.Said.{Said}
 use Rattle.promises.specs.Forms.{formOf, formSaid}
+use Rattle.promises.specs.Versions.{Version, rowOf}
 
 -- ---- version and contents
 
 abbrev pub versionIn : List ℕ → ℕ
 versionIn image = octet image 0
+
+abbrev pub rowIn : List ℕ → Version
+rowIn image = rowOf (versionIn image)
 
 abbrev pub countIn : List ℕ → ℕ
 countIn image = octet image 1
@@ -31,9 +35,13 @@ positionAt image i = numberAt (2 + 4 * i + 2) 2 image
 
 -- ---- the body of entry i
 
--- where its octet j stands
+-- where its octet j stands: at 2 + 4k + 52i + j in versions 1 and 2, at 6 + 4k + 22i + j in version 3
 abbrev pub place : List ℕ → ℕ → ℕ → ℕ
-place image i j = 2 + 4 * countIn image + 52 * i + j
+place image i j = rowIn image .front + 4 * countIn image + rowIn image .body * i + j
+
+-- where the four octets of its mark begin
+abbrev pub markPlace : List ℕ → ℕ → ℕ
+markPlace image i = place image i (rowIn image .mark)
 
 abbrev pub serviceAt : List ℕ → ℕ → ℕ
 serviceAt image i = octet image (place image i 0)
@@ -62,19 +70,20 @@ windowAt image i = numberAt (place image i 8) 2 image
 abbrev pub maskAt : List ℕ → ℕ → List ℕ
 maskAt image i = part (place image i 10) 6 image
 
-abbrev pub keyOctetsAt : List ℕ → ℕ → List ℕ
-keyOctetsAt image i = part (place image i 16) 32 image
+-- the ID of its key, where the version has a key part
+abbrev pub keyIdAt : List ℕ → ℕ → ℕ
+keyIdAt image i = numberAt (place image i 16) 2 image
 
 -- the mark, as it is coded
 abbrev pub codeAt : List ℕ → ℕ → ℕ
-codeAt image i = numberAt (place image i 48) 4 image
+codeAt image i = numberAt (markPlace image i) 4 image
 
 abbrev pub wholeBodyAt : List ℕ → ℕ → List ℕ
-wholeBodyAt image i = part (place image i 0) 52 image
+wholeBodyAt image i = part (place image i 0) (rowIn image .body) image
 
--- whether its channel octet is a set of eight bits, the lowest for channel 0: in version 2, of kind 3
+-- whether its channel octet is a set of eight bits, the lowest for channel 0: from version 2 on, of kind 3
 abbrev pub isSet : List ℕ → ℕ → Bool
-isSet image i = eqb (versionIn image) 2 && eqb (kindAt image i) 3
+isSet image i = rowIn image .sets && eqb (kindAt image i) 3
 
 -- it serves a channel: the one that it holds, or one whose bit is 1 in its set
 pub record ServesChannel (image : List ℕ) (i channel : ℕ) : Type 0 where
@@ -84,6 +93,50 @@ pub record ServesChannel (image : List ℕ) (i channel : ℕ) : Type 0 where
 -- the code of a mark: m exclusive-or half of m rounded down
 abbrev pub coded : ℕ → ℕ
 coded m = m ⊕ m / 2
+
+-- ---- the key part, behind the last body: the count of its keys, then of each an ID of two octets, a state octet and the 32 octets of the key
+
+abbrev pub partPlace : List ℕ → ℕ
+partPlace image = place image (countIn image) 0
+
+-- an image without a key part has no keys
+abbrev pub keyCountIn : List ℕ → ℕ
+keyCountIn image = cond (rowIn image .keyPart) (octet image (partPlace image)) 0
+
+-- where key j stands
+abbrev pub keyAt : List ℕ → ℕ → ℕ
+keyAt image j = partPlace image + 1 + 35 * j
+
+abbrev pub idOfKey : List ℕ → ℕ → ℕ
+idOfKey image j = numberAt (keyAt image j) 2 image
+
+abbrev pub stateOfKey : List ℕ → ℕ → ℕ
+stateOfKey image j = octet image (keyAt image j + 2)
+
+abbrev pub octetsOfKey : List ℕ → ℕ → List ℕ
+octetsOfKey image j = part (keyAt image j + 3) 32 image
+
+-- key j is there and has an ID
+pub record HasId (image : List ℕ) (id j : ℕ) : Type 0 where
+  pub there : j < keyCountIn image
+  pub ids : idOfKey image j ≡ id
+
+-- there is a key with an ID; and one that is in a state: 0 pre-active, 1 active, 2 deactivated
+abbrev pub KeyThere : List ℕ → ℕ → Type 0
+KeyThere image id = (j : ℕ) × HasId image id j
+
+abbrev pub KeyInState : List ℕ → ℕ → ℕ → Type 0
+KeyInState image id state = (j : ℕ) × HasId image id j × (stateOfKey image j ≡ state)
+
+-- the first of n keys from j on that has an ID, and where none has it the one behind them
+unfoldable pub keyFrom : List ℕ → ℕ → ℕ → ℕ → ℕ
+keyFrom image id j zero = j
+keyFrom image id j (suc n) = cond (eqb (idOfKey image j) id) j (keyFrom image id (j + 1) n)
+
+-- the key of entry i: the 32 octets of the key whose ID its body holds, or those in its body
+abbrev pub keyOctetsAt : List ℕ → ℕ → List ℕ
+keyOctetsAt image i =
+    cond (rowIn image .keyPart) (octetsOfKey image (keyFrom image (keyIdAt image i) 0 (keyCountIn image))) (part (place image i 16) 32 image)
 
 -- ---- what a valid image is
 
@@ -100,14 +153,29 @@ pub record BodyRules (image : List ℕ) (i : ℕ) : Type 0 where
   pub mask : kindAt image i ≡ 1 → octet image (place image i 15) ≡ 0
   pub mark : codeAt image i < 2 ^ 26
 
+-- of a key part: the last entry of the contents, outside the count, is SPI 65,535 and its position; at most 64 keys, whose IDs rise; and an
+-- operational body names a key that is there and active
+pub record KeyRules (image : List ℕ) : Type 0 where
+  pub spi : spiAt image (countIn image) ≡ 65535
+  pub position : positionAt image (countIn image) ≡ partPlace image
+  pub count : keyCountIn image ≤ 64
+  pub rising : (j k : ℕ) → j < k → k < keyCountIn image → idOfKey image j < idOfKey image k
+  pub state : (j : ℕ) → j < keyCountIn image → stateOfKey image j ≤ 2
+  pub active : (i : ℕ) → i < countIn image → stateAt image i ≡ 2 → KeyInState image (keyIdAt image i) 1
+
+-- exactly 2 + 56k octets in versions 1 and 2, and 7 + 26k + 35q in version 3
+abbrev pub sizeIn : List ℕ → ℕ
+sizeIn image = partPlace image + cond (rowIn image .keyPart) (1 + 35 * keyCountIn image) 0
+
 pub record ImageRules (image : List ℕ) : Type 0 where
-  pub version : (1 ≤ versionIn image) × (versionIn image ≤ 2)
+  pub version : (1 ≤ versionIn image) × (versionIn image ≤ 3)
   pub count : countIn image ≤ 32
-  pub size : length image ≡ 2 + 56 * countIn image
+  pub size : length image ≡ sizeIn image
   pub spi : (i : ℕ) → i < countIn image → (1 ≤ spiAt image i) × (spiAt image i ≤ 65534)
   pub rising : (i j : ℕ) → i < j → j < countIn image → spiAt image i < spiAt image j
   pub position : (i : ℕ) → i < countIn image → positionAt image i ≡ place image i 0
   pub body : (i : ℕ) → i < countIn image → BodyRules image i
+  pub keys : rowIn image .keyPart ≡ true → KeyRules image
 
 -- ---- the managed numbers
 

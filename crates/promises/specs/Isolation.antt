@@ -1,7 +1,7 @@
 -- Other projects' bodies change nothing. With two valid images whose numbers agree with their marks, a sending or a check of the same
 -- frame, with the same arguments and an output of the same length, gives the same answer number, length, stores and result, if in both
--- images an entry serves the frame, with the same body and the same number, or in neither. It supposes nothing else of the two images:
--- they may be of different versions, and other entries may differ in number, place and content.
+-- images an entry serves the frame, with the same body, the same key and the same number, or in neither. It supposes nothing else of the
+-- two images: they may be of different versions, and other entries and keys may differ in number, place and content.
 -- Assumes nothing.
 use Prim.Native.Nat.{ℕ}
 use mathlib.Core.Path.{_≡_}
@@ -10,7 +10,7 @@ use lib.ListN.{length}
 use Rattle.octets.specs.Lists.{Octets}
 use Rattle.link.specs.Calls.{Left, handed, secured, checked}
 use Rattle.judging.specs.Said.{Said}
-use Rattle.promises.specs.Images.{wholeBodyAt, lastAt, ImageRules, Agreeing, Serves}
+use Rattle.promises.specs.Images.{wholeBodyAt, keyOctetsAt, lastAt, ImageRules, Agreeing, Serves}
 use Rattle.promises.specs.Frames.{spiOn}
 
 -- an image and its numbers, in good standing
@@ -23,6 +23,7 @@ pub record Standing (image numbers : List ℕ) : Type 0 where
 pub data SameEntry (image numbers other otherNumbers : List ℕ) (direction : ℕ) (said : Said) (spi : ℕ) (frame : List ℕ) : Type 0 where
   both : (i j : ℕ) → Serves image direction said spi frame i → Serves other direction said spi frame j
       → wholeBodyAt image i ≡ wholeBodyAt other j
+      → keyOctetsAt image i ≡ keyOctetsAt other j
       → lastAt numbers i ≡ lastAt otherNumbers j
       → SameEntry image numbers other otherNumbers direction said spi frame
   neither : ((i : ℕ) → Serves image direction said spi frame i → ⊥) → ((j : ℕ) → Serves other direction said spi frame j → ⊥)

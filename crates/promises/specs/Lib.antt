@@ -11,4 +11,5 @@ pub mod Refusals
 pub mod RoundTrip
 pub mod Runs
 pub mod Upgrade
+pub mod Versions
 pub mod Wear

@@ -2,7 +2,8 @@
 -- out, under the same kind and the same word on the check field, answers 0 at the other end, and its result is exactly the clear frame's
 -- data. It supposes what document 01 lets it suppose: the other end's image is valid and its numbers agree with it, its entry is operational
 -- and holds the same SPI, service, kind, key, mask, spacecraft and MAP with direction 2 and serves the frame's channel (whatever other
--- channels either end serves, and whichever version either image has), its output is long enough, and the number on the frame lies in its
+-- channels either end serves, whatever ID either has for the key, and whichever version either image has; but under service 2 both
+-- are below version 3, or neither is, so that they make the IV alike), its output is long enough, and the number on the frame lies in its
 -- window. One statement for both services and every kind, with a check field and without.
 -- Assumes nothing.
 use Prim.Native.Nat.{ℕ, _≤_, _<_}
@@ -12,7 +13,7 @@ use lib.ListN.{length}
 use Rattle.link.specs.Calls.{Left, handed, secured, checked}
 use Rattle.judging.specs.Said.{Said}
 use Rattle.octets.specs.Lists.{Octets}
-use Rattle.promises.specs.Images.{countIn, spiAt, serviceAt, kindAt, directionAt, stateAt, spacecraftAt, mapAt}
+use Rattle.promises.specs.Images.{rowIn, countIn, spiAt, serviceAt, kindAt, directionAt, stateAt, spacecraftAt, mapAt}
 use Rattle.promises.specs.Images.{windowAt, maskAt, keyOctetsAt, lastAt, ServesChannel, ImageRules, Agreeing, InWindow}
 use Rattle.promises.specs.Forms.{formSaid}
 use Rattle.promises.specs.Frames.{dataInClear, numberOn}
@@ -26,6 +27,7 @@ pub record OtherEnd (said : Said) (frame here : List ℕ) (e : ℕ) (there numbe
   pub service : serviceAt there i ≡ serviceAt here e
   pub kind : kindAt there i ≡ kindAt here e
   pub key : keyOctetsAt there i ≡ keyOctetsAt here e
+  pub iv : serviceAt here e ≡ 2 → rowIn there .keyPart ≡ rowIn here .keyPart
   pub mask : maskAt there i ≡ maskAt here e
   pub spacecraft : spacecraftAt there i ≡ spacecraftAt here e
   pub channel : ServesChannel there i (formSaid said .channel frame)
@@ -46,6 +48,6 @@ pub record RoundTrip : Type 0 where
       → e < countIn here
       → spiAt here e ≡ spi
       → OtherEnd said frame here e there numbers i
-      → InWindow (lastAt numbers i) (windowAt there i) (numberOn (serviceAt here e) said (handed x))
+      → InWindow (lastAt numbers i) (windowAt there i) (numberOn (rowIn here) (serviceAt here e) said (handed x))
       → length (dataInClear said frame) ≤ length output
       → Released (dataInClear said frame) (checked there numbers said (handed x) output)
