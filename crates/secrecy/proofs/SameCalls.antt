@@ -52,7 +52,7 @@ use Rattle.kinds.specs.Kinds.{Kind}
 use Rattle.link.specs.Calls.{Left, refused, left, loaded, checkingReply, checkingEntry, comparison, checkedAs, checked}
 use Rattle.link.proofs.Leaving.{left-done, left-refused}
 use Rattle.secrecy.proofs.SameFrames.{SameHeaders, same-obeys, same-short, same-clear, same-number}
-use Rattle.secrecy.proofs.SameImages.{keysOf, keyAt, Public, ButKeys, same-version, same-count, same-keys, same-mark-place, same-spi}
+use Rattle.secrecy.proofs.SameImages.{keysOf, keyAt, Public, OnlyKeys, same-version, same-count, same-keys, same-mark-place, same-spi}
 use Rattle.secrecy.proofs.SameImages.{fields-same, same-mark, same-laid, same-valid}
 
 -- ---- the search, agreement, what a load gives, and the stores of a raise
@@ -62,7 +62,7 @@ unfolding firstFrom
 first-same zero i test other same = refl
 first-same (suc n) i test other same = cc (same i (omega arith), first-same n (i + 1) test other (λ k h. same k (omega arith)))
 
-module _ {image other : List ℕ} (b : ButKeys image other) where
+module _ {image other : List ℕ} (b : OnlyKeys image other) where
   same-matches : (w : Wanted) (i : ℕ) → i < countOf image → matches other w i ≡ matches image w i
   unfolding matches bodyServes
   same-matches w i h =
@@ -103,16 +103,16 @@ module _ {image other : List ℕ} (b : ButKeys image other) where
 
 -- ---- what a call sees, but for the key
 
-record SeenAlike (x y : Seen) : Type 0 where
-  valid : y .valid ≡ x .valid
-  agree : y .agree ≡ x .agree
-  none : isNone (y .found) ≡ isNone (x .found)
-  service : heldBy y .service ≡ heldBy x .service
-  window : heldBy y .window ≡ heldBy x .window
-  naming : heldBy y .naming ≡ heldBy x .naming
-  number : theOne (y .found) .number ≡ theOne (x .found) .number
+pub record SeenAlike (x y : Seen) : Type 0 where
+  pub valid : y .valid ≡ x .valid
+  pub agree : y .agree ≡ x .agree
+  pub none : isNone (y .found) ≡ isNone (x .found)
+  pub service : heldBy y .service ≡ heldBy x .service
+  pub window : heldBy y .window ≡ heldBy x .window
+  pub naming : heldBy y .naming ≡ heldBy x .naming
+  pub number : theOne (y .found) .number ≡ theOne (x .found) .number
 
-module _ {image other : List ℕ} (b : ButKeys image other) (last : List ℕ) (w : Wanted) where
+module _ {image other : List ℕ} (b : OnlyKeys image other) (last : List ℕ) (w : Wanted) where
   same-naming : (i : ℕ) → i < countOf image → namingOf other i ≡ namingOf image i
   unfolding namingOf
   same-naming i h = cc (same-keys b, same-spi b i (omega arith))
@@ -183,11 +183,11 @@ pub record Told (u v : Left) : Type 0 where
   pub size : v .length ≡ u .length
   pub stores : v .stores ≡ u .stores
   pub lasts : v .numbers ≡ u .numbers
-  pub images : ButKeys (u .image) (v .image)
+  pub images : OnlyKeys (u .image) (v .image)
 
 -- ---- load
 
-pub load-told : {image other : List ℕ} → ButKeys image other → (any : List ℕ) → Told (loaded image any) (loaded other any)
+pub load-told : {image other : List ℕ} → OnlyKeys image other → (any : List ℕ) → Told (loaded image any) (loaded other any)
 unfolding loaded
 load-told {image} {other} b any = rw (same-valid b) (by-test (validImage image))
   where
@@ -215,7 +215,7 @@ next n b c ts us e behind = rw e (by-test b behind)
 abbrev inside : Seen → Kind → List ℕ → Bool
 inside z k frame = accepts (theOne (z .found) .number) (heldBy z .window) (numberIn (heldBy z) k frame)
 
-module _ {image other : List ℕ} (b : ButKeys image other) (last : List ℕ) (said : Said) (f g : List ℕ) (a : SameHeaders (kindSaid said) f g)
+module _ {image other : List ℕ} (b : OnlyKeys image other) (last : List ℕ) (said : Said) (f g : List ℕ) (a : SameHeaders (kindSaid said) f g)
     (spi : spiIn (kindSaid said) g ≡ spiIn (kindSaid said) f) where
   abbrev x : Seen
   x = seen image last (checkingWants said f)
@@ -230,20 +230,23 @@ module _ {image other : List ℕ} (b : ButKeys image other) (last : List ℕ) (s
   unfolding wanted
   same-wants = cc
 
-  alike : SeenAlike x y
+  pub alike : SeenAlike x y
   alike = rw same-wants (same-seen b last (checkingWants said f))
 
+  pub same-index : checkingEntry other said g ≡ checkingEntry image said f
+  same-index = ap indexOf (ap (entryFor other) same-wants ∙ same-entry b (checkingWants said f))
+
   -- how the comparison falls out in each, and the room in each output
-  module _ (r s : Bool) (room : ℕ) (fields : isNone (x .found) ≡ false → fieldIn (heldBy x) k g ≡ fieldIn (heldBy x) k f)
+  module _ (r s : Bool) (room : ℕ) (fields : Fronts x k f true → fieldIn (heldBy x) k g ≡ fieldIn (heldBy x) k f)
       (ends : x .valid ≡ true → x .agree ≡ true → obeys k f true ≡ true → fieldOk k g ≡ fieldOk k f)
       (compares : Fronts x k f true → tooShort k (securityLength (heldBy x)) f ≡ false → ltb room (clearLength (heldBy x) k f) ≡ false → s ≡ r)
       where
-    same-used : isNone (x .found) ≡ false → numberIn (heldBy y) k g ≡ numberIn (heldBy x) k f
+    same-used : Fronts x k f true → numberIn (heldBy y) k g ≡ numberIn (heldBy x) k f
     unfolding fieldIn
-    same-used some = same-number a (heldBy x) (heldBy y) (alike .service) (alike .naming) (cc (alike .service, fields some))
+    same-used front = same-number a (heldBy x) (heldBy y) (alike .service) (alike .naming) (cc (alike .service, fields front))
 
-    same-inside : isNone (x .found) ≡ false → inside y k g ≡ inside x k f
-    same-inside some = cc (alike .window, alike .number, same-used some)
+    same-inside : Fronts x k f true → inside y k g ≡ inside x k f
+    same-inside front = cc (alike .window, alike .number, same-used front)
 
     same-answer : first (checkingTests y s said g room) ≡ first (checkingTests x r said f room)
     unfolding checkingTests
@@ -272,7 +275,7 @@ module _ {image other : List ℕ} (b : ButKeys image other) (last : List ℕ) (s
         in
         next 7 (not r) (not s) _ _ (ap not (compares front t5 t6))
         (λ t7.
-        next 8 (not (inside x k f)) (not (inside y k g)) [] [] (ap not (same-inside t4)) (λ t8. refl)))))))))
+        next 8 (not (inside x k f)) (not (inside y k g)) [] [] (ap not (same-inside front)) (λ t8. refl)))))))))
 
     -- the same entry takes the same number, and the same stores raise its mark
     abbrev e : ℕ
@@ -281,26 +284,23 @@ module _ {image other : List ℕ} (b : ButKeys image other) (last : List ℕ) (s
     abbrev n : ℕ
     n = numberIn (heldBy x) k f
 
-    same-index : checkingEntry other said g ≡ e
-    same-index = ap indexOf (ap (entryFor other) same-wants ∙ same-entry b (checkingWants said f))
-
     module _ (z : checking x r said f room .answer ≡ 0) where
-      some : isNone (x .found) ≡ false
-      some = checks x r said f room z .front .found
+      front : Fronts x k f true
+      front = checks x r said f room z .front
 
       same-stores : storesFor other (checkingEntry other said g) (numberIn (heldBy y) k g) ≡ storesFor image e n
-      same-stores = rw (same-index, same-used some) (ap storesOf (same-plan b e n))
+      same-stores = rw (same-index, same-used front) (ap storesOf (same-plan b e n))
 
       mark-stores : Within image e (layout image .mark) codeLength (stored image (storesFor image e n))
       unfolding seen
       mark-stores =
           let c = checks x r said f room z in
           let small : n ≤ greatest = accepted (theOne (x .found) .number) (heldBy x .window) n (c .under .window) .fits in
-          let listed : e < countOf image = finds image last (checkingWants said f) some .below in
+          let listed : e < countOf image = finds image last (checkingWants said f) (front .found) .below in
           mark-within image e _ listed
           (rw (← after-all image e n (length (storesFor image e n)) (le-refl (length (storesFor image e n)))) (mark-only image e n _ small))
 
-      stored-told : ButKeys (stored image (storesFor image e n)) (stored other (storesFor image e n))
+      stored-told : OnlyKeys (stored image (storesFor image e n)) (stored other (storesFor image e n))
       stored-told =
           let stores = storesFor image e n in
           record {
@@ -308,7 +308,7 @@ module _ {image other : List ℕ} (b : ButKeys image other) (last : List ℕ) (s
             same = λ p public. stored-same p stores image other (b .long) (b .same p (kept-public mark-stores p public));
           }
 
-    same-check : (o p : List ℕ) → length o ≡ room → length p ≡ room → Told (checkedAs r image last said f o) (checkedAs s other last said g p)
+    pub same-check : (o p : List ℕ) → length o ≡ room → length p ≡ room → Told (checkedAs r image last said f o) (checkedAs s other last said g p)
     unfolding checkedAs checkingReply checking
     same-check o p here there = rw (here, there) (by-answer (ℕ-discrete (checking x r said f room .answer) 0))
       where
@@ -325,9 +325,36 @@ module _ {image other : List ℕ} (b : ButKeys image other) (last : List ℕ) (s
               answer = refl;
               size = same-clear a (heldBy x) (heldBy y) (alike .service);
               stores = refl;
-              lasts = ap₂ (set last) same-index (same-used (some z));
+              lasts = ap₂ (set last) same-index (same-used (front z));
               images = stored-told z;
             })
         by-answer (no z) =
             rw (left-refused q image last o z, left-refused w other last p (λ t. z (sym same-answer ∙ t)))
             (record { answer = same-answer; size = refl; stores = refl; lasts = refl; images = b })
+
+-- ---- an image of octets stays one
+
+pub load-octets : (image any : List ℕ) → Octets image → Octets (loaded image any .image)
+unfolding loaded
+load-octets image any octets = by-test (validImage image)
+  where
+    by-test : (t : Bool)
+        → Octets (cond t (record { answer = 0; length = 0; stores = 0; image = image; numbers = loadedNumbers image; output = [] })
+        (refused 1 image any []) .image)
+    by-test true = octets
+    by-test false = octets
+
+pub check-octets : (r : Bool) (image last : List ℕ) (said : Said) (f o : List ℕ) → Octets image → Octets (checkedAs r image last said f o .image)
+unfolding checkedAs checkingReply
+check-octets r image last said f o octets = by-answer (ℕ-discrete (q .answer) 0)
+  where
+    q : Reply
+    q = checkingReply r image last said f (length o)
+
+    stored-octets : (i n : ℕ) → Octets (stored image (storesFor image i n))
+    stored-octets i n =
+        let j : ℕ = length (storesFor image i n) in rw (← after-all image i n j (le-refl j)) (after-octets image i n j octets)
+
+    by-answer : Dec (q .answer ≡ 0) → Octets (left q image last o .image)
+    by-answer (yes z) = rw (left-done q image last o z) (stored-octets (q .entry) (q .number))
+    by-answer (no z) = rw (left-refused q image last o z) octets

@@ -38,7 +38,7 @@ keyAt image k = cond (layout image .keys) (keyOctetsPlace (partAt image) k) (bod
 abbrev pub Public : List ℕ → ℕ → Type 0
 Public image p = (k : ℕ) → k < keysOf image → Outside (keyAt image k) keyLength p
 
-pub record ButKeys (image other : List ℕ) : Type 0 where
+pub record OnlyKeys (image other : List ℕ) : Type 0 where
   pub long : length other ≡ length image
   pub same : (p : ℕ) → Public image p → octet other p ≡ octet image p
 
@@ -104,7 +104,7 @@ module _ (image : List ℕ) where
 
 -- ---- what is the same
 
-module _ {image other : List ℕ} (b : ButKeys image other) where
+module _ {image other : List ℕ} (b : OnlyKeys image other) where
   pub same-version : versionOf other ≡ versionOf image
   same-version = b .same 0 (contents-public image 0 (omega arith))
 
