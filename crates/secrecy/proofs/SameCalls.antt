@@ -4,7 +4,7 @@
 -- Assumes nothing.
 use Prim.Native.Nat.{ℕ, zero, suc, _+_, _/_, _≤_, _<_}
 use mathlib.Core.Path.{_≡_, refl, sym, ap, ap₂, _∙_}
-use mathlib.Core.Bool.{Bool, true, false, cond, not, _&&_, and-false}
+use mathlib.Core.Bool.{Bool, true, false, cond, not, and-false}
 use mathlib.Core.List.{List, [], _∷_}
 use native.Mathlib.Decide.{ℕ-discrete, decLt}
 use native.Mathlib.Nat.{le-refl}
@@ -14,24 +14,22 @@ use lib.Dec.{eqb, ltb}
 use lib.ListN.{length, set, length-set, List·getD-eq-default}
 use lib.Seq.{getD-set-same, getD-set-other}
 use Rattle.octets.specs.Lists.{octet, Octets, all}
-use Rattle.octets.proofs.Alls.{all-same, all-at}
+use Rattle.octets.proofs.Alls.{all-same}
 use Rattle.octets.proofs.Rules.{tab-ext}
-use Rattle.octets.proofs.Outside.{Changed}
 use Rattle.marks.specs.Gray.{codeLength}
 use Rattle.marks.specs.Stores.{storesOf, stored}
 use Rattle.marks.specs.declared.plans.Store.{Store}
 use Rattle.marks.proofs.Made.{length-stored}
-use Rattle.image.specs.Image.{versionOf, countOf, mostEntries, layout, bodyAt, bodyOf, markAt, markIn, partAt, keyCount, laidOut, validImage}
+use Rattle.image.specs.Image.{countOf, mostEntries, layout, bodyOf, markIn, validImage}
 use Rattle.image.proofs.KeptParts.{Within, mark-within, kept-version, kept-count, kept-place, kept-part, kept-keys}
 use Rattle.bodies.specs.Layout.{layoutOf}
 use Rattle.bodies.proofs.SameFields.{SameFields}
 use Rattle.numbers.specs.Numbers.{greatest, numberOf, agrees, accepts, loadedNumber, loadedNumbers}
-use Rattle.numbers.specs.Stores.{planFor, storesFor, afterStores}
+use Rattle.numbers.specs.Stores.{planFor, storesFor}
 use Rattle.numbers.proofs.AfterStores.{mark-only, after-all, after-octets}
 use Rattle.numbers.proofs.Agreement.{accepted}
-use Rattle.association.specs.Association.{namingOf, associationOf, held, heldIn, isNone, theOne, matchAt, matching, indexOf}
+use Rattle.association.specs.Association.{namingOf, associationOf, held, isNone, theOne, matchAt, matching, indexOf}
 use Rattle.association.specs.Search.{bodyServes, matches, firstFrom, entryFor}
-use Rattle.association.specs.declared.held.Held.{Held}
 use Rattle.association.specs.declared.search.Found.{Found}
 use Rattle.association.specs.declared.search.Found.the-variants as found
 use Rattle.association.specs.declared.search.Wanted.{Wanted}
@@ -49,7 +47,7 @@ use Rattle.judging.specs.Wants.{wanted, checkingWants}
 use Rattle.judging.proofs.Answered.{heldBy, Fronts, checks}
 use Rattle.judging.proofs.Searches.{finds}
 use Rattle.kinds.specs.Kinds.{Kind}
-use Rattle.link.specs.Calls.{Left, refused, left, loaded, checkingReply, checkingEntry, comparison, checkedAs, checked}
+use Rattle.link.specs.Calls.{Left, refused, left, loaded, checkingReply, checkingEntry, checkedAs}
 use Rattle.link.proofs.Leaving.{left-done, left-refused}
 use Rattle.secrecy.proofs.SameFrames.{SameHeaders, same-obeys, same-short, same-clear, same-number}
 use Rattle.secrecy.proofs.SameImages.{keysOf, keyAt, Public, OnlyKeys, same-version, same-count, same-keys, same-mark-place, same-spi}
@@ -240,97 +238,97 @@ module _ {image other : List ℕ} (b : OnlyKeys image other) (last : List ℕ) (
   module _ (r s : Bool) (room : ℕ) (fields : Fronts x k f true → fieldIn (heldBy x) k g ≡ fieldIn (heldBy x) k f)
       (ends : x .valid ≡ true → x .agree ≡ true → obeys k f true ≡ true → fieldOk k g ≡ fieldOk k f)
       (compares : Fronts x k f true → tooShort k (securityLength (heldBy x)) f ≡ false → ltb room (clearLength (heldBy x) k f) ≡ false → s ≡ r)
-      where
-    same-used : Fronts x k f true → numberIn (heldBy y) k g ≡ numberIn (heldBy x) k f
-    unfolding fieldIn
-    same-used front = same-number a (heldBy x) (heldBy y) (alike .service) (alike .naming) (cc (alike .service, fields front))
+    where
+      same-used : Fronts x k f true → numberIn (heldBy y) k g ≡ numberIn (heldBy x) k f
+      unfolding fieldIn
+      same-used front = same-number a (heldBy x) (heldBy y) (alike .service) (alike .naming) (cc (alike .service, fields front))
 
-    same-inside : Fronts x k f true → inside y k g ≡ inside x k f
-    same-inside front = cc (alike .window, alike .number, same-used front)
+      same-inside : Fronts x k f true → inside y k g ≡ inside x k f
+      same-inside front = cc (alike .window, alike .number, same-used front)
 
-    same-answer : first (checkingTests y s said g room) ≡ first (checkingTests x r said f room)
-    unfolding checkingTests
-    same-answer =
-        next 1 (not (x .valid)) (not (y .valid)) _ _ (ap not (alike .valid))
-        (λ t1.
-        next 2 (not (x .agree)) (not (y .agree)) _ _ (ap not (alike .agree))
-        (λ t2.
-        next 3 (not (obeys k f true)) (not (obeys k g true)) _ _ (ap not (same-obeys a true))
-        (λ t3.
-        let v = not-false (x .valid) t1 in
-        let w = not-false (x .agree) t2 in
-        let o = not-false (obeys k f true) t3 in
-        next 12 (not (fieldOk k f)) (not (fieldOk k g)) _ _ (ap not (ends v w o))
-        (λ t12.
-        next 4 (isNone (x .found)) (isNone (y .found)) _ _ (alike .none)
-        (λ t4.
-        next 5 (tooShort k (securityLength (heldBy x)) f) (tooShort k (securityLength (heldBy y)) g) _ _
-        (ap (λ (n : ℕ). tooShort k (2 + service n .field) g) (alike .service) ∙ same-short a (securityLength (heldBy x)))
-        (λ t5.
-        next 6 (ltb room (clearLength (heldBy x) k f)) (ltb room (clearLength (heldBy y) k g)) _ _
-        (ap (ltb room) (same-clear a (heldBy x) (heldBy y) (alike .service)))
-        (λ t6.
-        let front : Fronts x k f true =
-        record { valid = v; agree = w; rules = o; field = not-false (fieldOk k f) t12; found = t4 }
-        in
-        next 7 (not r) (not s) _ _ (ap not (compares front t5 t6))
-        (λ t7.
-        next 8 (not (inside x k f)) (not (inside y k g)) [] [] (ap not (same-inside front)) (λ t8. refl)))))))))
+      same-answer : first (checkingTests y s said g room) ≡ first (checkingTests x r said f room)
+      unfolding checkingTests
+      same-answer =
+          next 1 (not (x .valid)) (not (y .valid)) _ _ (ap not (alike .valid))
+          (λ t1.
+          next 2 (not (x .agree)) (not (y .agree)) _ _ (ap not (alike .agree))
+          (λ t2.
+          next 3 (not (obeys k f true)) (not (obeys k g true)) _ _ (ap not (same-obeys a true))
+          (λ t3.
+          let v = not-false (x .valid) t1 in
+          let w = not-false (x .agree) t2 in
+          let o = not-false (obeys k f true) t3 in
+          next 12 (not (fieldOk k f)) (not (fieldOk k g)) _ _ (ap not (ends v w o))
+          (λ t12.
+          next 4 (isNone (x .found)) (isNone (y .found)) _ _ (alike .none)
+          (λ t4.
+          next 5 (tooShort k (securityLength (heldBy x)) f) (tooShort k (securityLength (heldBy y)) g) _ _
+          (ap (λ (n : ℕ). tooShort k (2 + service n .field) g) (alike .service) ∙ same-short a (securityLength (heldBy x)))
+          (λ t5.
+          next 6 (ltb room (clearLength (heldBy x) k f)) (ltb room (clearLength (heldBy y) k g)) _ _
+          (ap (ltb room) (same-clear a (heldBy x) (heldBy y) (alike .service)))
+          (λ t6.
+          let front : Fronts x k f true =
+          record { valid = v; agree = w; rules = o; field = not-false (fieldOk k f) t12; found = t4 }
+          in
+          next 7 (not r) (not s) _ _ (ap not (compares front t5 t6))
+          (λ t7.
+          next 8 (not (inside x k f)) (not (inside y k g)) [] [] (ap not (same-inside front)) (λ t8. refl)))))))))
 
-    -- the same entry takes the same number, and the same stores raise its mark
-    abbrev e : ℕ
-    e = checkingEntry image said f
+      -- the same entry takes the same number, and the same stores raise its mark
+      abbrev e : ℕ
+      e = checkingEntry image said f
 
-    abbrev n : ℕ
-    n = numberIn (heldBy x) k f
+      abbrev n : ℕ
+      n = numberIn (heldBy x) k f
 
-    module _ (z : checking x r said f room .answer ≡ 0) where
-      front : Fronts x k f true
-      front = checks x r said f room z .front
+      module _ (z : checking x r said f room .answer ≡ 0) where
+        front : Fronts x k f true
+        front = checks x r said f room z .front
 
-      same-stores : storesFor other (checkingEntry other said g) (numberIn (heldBy y) k g) ≡ storesFor image e n
-      same-stores = rw (same-index, same-used front) (ap storesOf (same-plan b e n))
+        same-stores : storesFor other (checkingEntry other said g) (numberIn (heldBy y) k g) ≡ storesFor image e n
+        same-stores = rw (same-index, same-used front) (ap storesOf (same-plan b e n))
 
-      mark-stores : Within image e (layout image .mark) codeLength (stored image (storesFor image e n))
-      unfolding seen
-      mark-stores =
-          let c = checks x r said f room z in
-          let small : n ≤ greatest = accepted (theOne (x .found) .number) (heldBy x .window) n (c .under .window) .fits in
-          let listed : e < countOf image = finds image last (checkingWants said f) (front .found) .below in
-          mark-within image e _ listed
-          (rw (← after-all image e n (length (storesFor image e n)) (le-refl (length (storesFor image e n)))) (mark-only image e n _ small))
+        mark-stores : Within image e (layout image .mark) codeLength (stored image (storesFor image e n))
+        unfolding seen
+        mark-stores =
+            let c = checks x r said f room z in
+            let small : n ≤ greatest = accepted (theOne (x .found) .number) (heldBy x .window) n (c .under .window) .fits in
+            let listed : e < countOf image = finds image last (checkingWants said f) (front .found) .below in
+            mark-within image e _ listed
+            (rw (← after-all image e n (length (storesFor image e n)) (le-refl (length (storesFor image e n)))) (mark-only image e n _ small))
 
-      stored-told : OnlyKeys (stored image (storesFor image e n)) (stored other (storesFor image e n))
-      stored-told =
-          let stores = storesFor image e n in
-          record {
-            long = length-stored other stores ∙ b .long ∙ sym (length-stored image stores);
-            same = λ p public. stored-same p stores image other (b .long) (b .same p (kept-public mark-stores p public));
-          }
+        stored-told : OnlyKeys (stored image (storesFor image e n)) (stored other (storesFor image e n))
+        stored-told =
+            let stores = storesFor image e n in
+            record {
+              long = length-stored other stores ∙ b .long ∙ sym (length-stored image stores);
+              same = λ p public. stored-same p stores image other (b .long) (b .same p (kept-public mark-stores p public));
+            }
 
-    pub same-check : (o p : List ℕ) → length o ≡ room → length p ≡ room → Told (checkedAs r image last said f o) (checkedAs s other last said g p)
-    unfolding checkedAs checkingReply checking
-    same-check o p here there = rw (here, there) (by-answer (ℕ-discrete (checking x r said f room .answer) 0))
-      where
-        q : Reply
-        q = checkingReply r image last said f room
+      pub same-check : (o p : List ℕ) → length o ≡ room → length p ≡ room → Told (checkedAs r image last said f o) (checkedAs s other last said g p)
+      unfolding checkedAs checkingReply checking
+      same-check o p here there = rw (here, there) (by-answer (ℕ-discrete (checking x r said f room .answer) 0))
+        where
+          q : Reply
+          q = checkingReply r image last said f room
 
-        w : Reply
-        w = checkingReply s other last said g room
+          w : Reply
+          w = checkingReply s other last said g room
 
-        by-answer : Dec (checking x r said f room .answer ≡ 0) → Told (left q image last o) (left w other last p)
-        by-answer (yes z) =
-            rw (left-done q image last o z, left-done w other last p (same-answer ∙ z), same-stores z)
-            (record {
-              answer = refl;
-              size = same-clear a (heldBy x) (heldBy y) (alike .service);
-              stores = refl;
-              lasts = ap₂ (set last) same-index (same-used (front z));
-              images = stored-told z;
-            })
-        by-answer (no z) =
-            rw (left-refused q image last o z, left-refused w other last p (λ t. z (sym same-answer ∙ t)))
-            (record { answer = same-answer; size = refl; stores = refl; lasts = refl; images = b })
+          by-answer : Dec (checking x r said f room .answer ≡ 0) → Told (left q image last o) (left w other last p)
+          by-answer (yes z) =
+              rw (left-done q image last o z, left-done w other last p (same-answer ∙ z), same-stores z)
+              (record {
+                answer = refl;
+                size = same-clear a (heldBy x) (heldBy y) (alike .service);
+                stores = refl;
+                lasts = ap₂ (set last) same-index (same-used (front z));
+                images = stored-told z;
+              })
+          by-answer (no z) =
+              rw (left-refused q image last o z, left-refused w other last p (λ t. z (sym same-answer ∙ t)))
+              (record { answer = same-answer; size = refl; stores = refl; lasts = refl; images = b })
 
 -- ---- an image of octets stays one
 

@@ -2,7 +2,7 @@
 -- the lengths of header and trailer, and the identifiers. So the frames obey alike, and the data that they hold is equally long.
 -- Assumes nothing.
 use Prim.Native.Nat.{ℕ, _+_, _-_, _*_, _/_, _%_, _≤_, _<_}
-use mathlib.Core.Path.{_≡_, refl, sym, ap, ap₂, _∙_}
+use mathlib.Core.Path.{_≡_, refl, ap, ap₂, _∙_}
 use mathlib.Core.Bool.{Bool, true, false, cond, not, _&&_, _||_}
 use mathlib.Core.List.{List}
 use native.Mathlib.Omega.{arith}
@@ -11,8 +11,8 @@ use lib.ListN.{length}
 use lib.Seq.{length-slice}
 use Rattle.octets.specs.Lists.{octet}
 use Rattle.headers.specs.Fields.{segmentMap, tmSecondary, secondaryLength}
-use Rattle.headers.specs.Telemetry.{tmPrimary, secondaryRules, tmHeader}
-use Rattle.kinds.specs.Kinds.{Kind, telecommand, tm, aos, noKind, kindBehind, kindOf, named, checkFieldLength, withCheckField}
+use Rattle.headers.specs.Telemetry.{tmPrimary, tmHeader}
+use Rattle.kinds.specs.Kinds.{Kind, telecommand, tm, aos, noKind, kindBehind, kindOf, named, checkFieldLength}
 use Rattle.kinds.specs.declared.kinds.Kind.the-variants as kind
 use Rattle.kinds.specs.declared.kinds.Named.{Named}
 use Rattle.kinds.specs.declared.kinds.Named.the-variants as answer

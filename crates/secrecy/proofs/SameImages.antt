@@ -2,13 +2,13 @@
 -- every body, marks, the IDs and states of keys; so the rules, agreement, the entry that a search finds and the stores of a raise are.
 -- Assumes nothing.
 use mathlib.Core.Path.{_≡_, refl, sym, ap, ap₂, _∙_}
-use mathlib.Core.Logic.{_⊎_, inl, inr, _≢_}
+use mathlib.Core.Logic.{inl, inr}
 use mathlib.Core.Bool.{Bool, true, false, cond, _&&_}
 use mathlib.Core.List.{List}
-use Prim.Native.Nat.{ℕ, zero, suc, _+_, _-_, _≤_, _<_}
+use Prim.Native.Nat.{ℕ, _+_, _-_, _≤_, _<_}
 use native.Mathlib.Decide.{ℕ-discrete, decLt}
 use native.Mathlib.Omega.{arith}
-use lib.Dec.{eqb, leb}
+use lib.Dec.{leb}
 use lib.ListN.{length, List·getD-eq-default}
 use Rattle.octets.specs.Lists.{octet, all}
 use Rattle.octets.proofs.Alls.{all-same}
@@ -17,7 +17,7 @@ use Rattle.octets.proofs.Outside.{Apart, Outside, Changed, same-number}
 use Rattle.marks.specs.Gray.{codeLength, ungray}
 use Rattle.bodies.specs.Body.{keyIdOf, markOf, bodyOk}
 use Rattle.bodies.specs.Layout.{keyLength, idLength, layoutOf, Lawful}
-use Rattle.bodies.proofs.Layouts.{lawful, fields-inside}
+use Rattle.bodies.proofs.Layouts.{lawful}
 use Rattle.bodies.proofs.SameFields.{SameFields, same-fields, same-rules}
 use Rattle.keys.specs.Keys.{active, mostKeys, keyPlace, keyStatePlace, keyOctetsPlace, keyIdAt, keyStateAt, keyIndex, keyInState, keyOk, keyPartOk}
 use Rattle.keys.proofs.SameKeys.{same-index}
@@ -196,8 +196,8 @@ module _ {image other : List ℕ} (b : OnlyKeys image other) where
     same-in : (state id : ℕ) → keyIn other state id ≡ keyIn image state id
     unfolding keyInState
     same-in state id =
-        rw (same-part, same-key-count, same-index image other (partAt image) id-read (keyCount image) id)
-        (rw (state-read (keyIndex image (partAt image) (keyCount image) id)))
+        let k : ℕ = keyIndex image (partAt image) (keyCount image) id in
+        rw (same-part, same-key-count, same-index image other (partAt image) id-read (keyCount image) id, state-read k)
 
     same-named : (i : ℕ) → i < countOf image → keyIdIn other i ≡ keyIdIn image i
     same-named i listed =

@@ -4,13 +4,13 @@
 use Prim.Native.Nat.{ℕ, _+_, _≤_, _<_}
 use mathlib.Core.Path.{_≡_, refl, sym, ap, _∙_, subst}
 use mathlib.Core.Logic.{_⊎_}
-use mathlib.Core.Bool.{Bool, true, false, cond}
+use mathlib.Core.Bool.{Bool, true, false}
 use mathlib.Core.List.{List, [], _∷_}
 use native.Mathlib.Omega.{arith}
 use borrow.Author.Tests.{ltb-false}
 use lib.Dec.{ltb}
 use lib.ListN.{length}
-use Rattle.octets.specs.Lists.{octet, Octets}
+use Rattle.octets.specs.Lists.{Octets}
 use Rattle.octets.specs.Same.{same}
 use Rattle.octets.proofs.Sameness.{same-refl, same-eq}
 use Rattle.image.specs.Image.{versionOf, layout}
