@@ -7,12 +7,17 @@
  * may point anywhere. Ranges lent to one call must not overlap. A call reads and writes nothing outside them. It ends for every input, and
  * has no other condition to meet: whatever the ranges hold, an answer comes back.
  *
- * The image is the table of associations: octet 0 is the version, 1 or 2, octet 1 the count k, 0 to 32, then k entries of 4 octets (SPI,
- * position of the body), then k bodies of 52 octets; all in all 2 + 56 k octets, numbers big-endian. Keep it where it outlives a loss of
- * power: a call stores into it one octet at a time, and what a loss leaves after any of these stores is an image to load again.
- * Octet 6 of a body is the virtual channel. In version 2, for telemetry, it is a set of channels, the lowest bit for channel 0, and not 0: one
- * association, with one number, for all of them. The window of an operational body is 1 to 1,024; that of another body may be any, as a loss
+ * The image is the table of associations: octet 0 is the version, 1 to 3, octet 1 the count k, 0 to 32, then k entries of 4 octets (SPI,
+ * position of the body), then, in versions 1 and 2, k bodies of 52 octets; all in all 2 + 56 k octets, numbers big-endian. Keep it where it
+ * outlives a loss of power: a call stores into it one octet at a time, and what a loss leaves after any of these stores is an image to load again.
+ * Octet 6 of a body is the virtual channel. From version 2 on, for telemetry, it is a set of channels, the lowest bit for channel 0, and not 0:
+ * one association, with one number, for all of them. The window of an operational body is 1 to 1,024; that of another body may be any, as a loss
  * of power in a window change can leave any.
+ * In version 3 the keys stand in one place behind the bodies, the key part: a count q, 0 to 64, and q keys of 35 octets (ID, state, 32
+ * octets), with IDs that rise. A body has 22 octets, with the ID of a key in place of the key; one more entry of the contents, SPI 65,535 and
+ * not counted, has the position of the key part; all in all 7 + 26 k + 35 q octets. The key of an operational body is there and active; other
+ * bodies may name any ID. Several associations may share a key: the IV of service 2 is then the SPI in 4 octets, 4 zero octets and the number,
+ * and no two of them ever send the same. Below version 3 it is the number in 12 octets. Both ends of an association make it alike.
  *
  * The managed numbers are uint32_t[32], element i for entry i: the last number sent, accepted or set. They are made by xistalvo_load and
  * changed by xistalvo_secure, xistalvo_check and xistalvo_command. They need not outlive a loss of power; load again after it. numbers_length counts
@@ -31,26 +36,37 @@ extern "C" {
 
 /* The version of this interface. The second number rises where something is added, the first where a program has to change. */
 #define XISTALVO_VERSION_MAJOR 2
-#define XISTALVO_VERSION_MINOR 2
-#define XISTALVO_VERSION "2.2"
+#define XISTALVO_VERSION_MINOR 3
+#define XISTALVO_VERSION "2.3"
 
 /* The managed numbers of one image, in elements. */
 #define XISTALVO_NUMBERS 32
 
-/* The image: its version, the most associations, the octets that k of them take, and the most octets. xistalvo_image.h lays one out. */
+/* The image: its version, the most associations and keys, the octets that k associations take, in version 3 with q keys, and the most octets of
+ * any version. xistalvo_image.h lays one out. */
 #define XISTALVO_IMAGE_VERSION 1
 #define XISTALVO_IMAGE_VERSION_SETS 2 /* as version 1, but TM associations serve a set of virtual channels */
+#define XISTALVO_IMAGE_VERSION_KEYS 3 /* as version 2, but bodies name their keys, which stand in one place */
 #define XISTALVO_MOST_ASSOCIATIONS 32
+#define XISTALVO_MOST_KEYS 64
 #define XISTALVO_IMAGE_LENGTH(k) (2 + 56 * (k))
-#define XISTALVO_LARGEST_IMAGE 1794
+#define XISTALVO_IMAGE_LENGTH_3(k, q) (7 + 26 * (k) + 35 * (q))
+#define XISTALVO_LARGEST_IMAGE 3079
 
-/* Places in an image of k associations: version, count, the SPI of entry i and the position of its body, the body of entry i. */
+/* Places in an image of k associations: version, count, the SPI of entry i and the position of its body, the body of entry i. What ends in 3
+ * is for version 3, where it stands elsewhere; entry k is there that of the key part, with an SPI of its own. */
 #define XISTALVO_AT_VERSION 0
 #define XISTALVO_AT_COUNT 1
 #define XISTALVO_AT_SPI(i) (2 + 4 * (i))
 #define XISTALVO_AT_POSITION(i) (4 + 4 * (i))
 #define XISTALVO_AT_BODY(k, i) (2 + 4 * (k) + 52 * (i))
 #define XISTALVO_BODY_LENGTH 52
+#define XISTALVO_AT_BODY_3(k, i) (6 + 4 * (k) + 22 * (i))
+#define XISTALVO_BODY_LENGTH_3 22
+#define XISTALVO_AT_KEY_COUNT_3(k) (6 + 26 * (k))
+#define XISTALVO_AT_KEY_3(k, j) (7 + 26 * (k) + 35 * (j)) /* key j of the key part */
+#define XISTALVO_KEY_LENGTH_3 35
+#define XISTALVO_KEY_PART_SPI 65535
 
 /* Places in a body. */
 #define XISTALVO_IN_SERVICE 0
@@ -64,6 +80,16 @@ extern "C" {
 #define XISTALVO_IN_MASK 10
 #define XISTALVO_IN_KEY 16
 #define XISTALVO_IN_MARK 48
+#define XISTALVO_IN_KEY_ID_3 16
+#define XISTALVO_IN_MARK_3 18
+
+/* Places in a key of the key part, and its states. */
+#define XISTALVO_IN_KEY_OWN_ID 0
+#define XISTALVO_IN_KEY_STATE 2
+#define XISTALVO_IN_KEY_OCTETS 3
+#define XISTALVO_KEY_PRE_ACTIVE 0
+#define XISTALVO_KEY_ACTIVE 1
+#define XISTALVO_KEY_DEACTIVATED 2
 
 /* The services. */
 #define XISTALVO_AUTHENTICATION 1           /* CMAC: the data stay readable; a frame grows by 22 octets */
@@ -93,32 +119,40 @@ extern "C" {
 /* An output of this many octets is long enough for every result. */
 #define XISTALVO_LARGEST_FRAME 2048
 
-/* The commands, by their first octet, the tag. Two octets follow with the length of the value, and then the value, nothing behind it. The first
- * field of a value is the SPI, in 2 octets; a number has 12 octets, of which the first 8 are 0. xistalvo_command.h lays commands out. */
-#define XISTALVO_TAG_READ_NUMBER 0x10 /* SPI */
-#define XISTALVO_TAG_SET_WINDOW 0x15  /* SPI, window (2 octets) */
-#define XISTALVO_TAG_REKEY 0x16       /* SPI, key ID (2) and number (12), both 0 */
-#define XISTALVO_TAG_EXPIRE 0x19      /* SPI */
-#define XISTALVO_TAG_SET_NUMBER 0x1A  /* SPI, number (12) */
-#define XISTALVO_TAG_START 0x1B       /* SPI, one channel or more (4 each) */
-#define XISTALVO_TAG_STOP 0x1E        /* SPI */
-#define XISTALVO_TAG_STATUS 0x1F      /* SPI */
-#define XISTALVO_TAG_PING 0x31        /* nothing */
+/* The commands, by their first octet, the tag. Two octets follow with the length of the value, and then the value, nothing behind it. Where a
+ * command names an SPI, it is the first field of the value, in 2 octets; a number has 12 octets, of which the first 8 are 0; a key ID has 2.
+ * xistalvo_command.h lays commands out. */
+#define XISTALVO_TAG_ACTIVATION 0x02   /* key ID */
+#define XISTALVO_TAG_DEACTIVATION 0x03 /* key ID */
+#define XISTALVO_TAG_INVENTORY 0x07    /* first and last key ID */
+#define XISTALVO_TAG_READ_NUMBER 0x10  /* SPI */
+#define XISTALVO_TAG_SET_WINDOW 0x15   /* SPI, window (2 octets) */
+#define XISTALVO_TAG_REKEY 0x16        /* SPI, key ID (2), 0 below version 3, and number (12), 0 */
+#define XISTALVO_TAG_EXPIRE 0x19       /* SPI */
+#define XISTALVO_TAG_SET_NUMBER 0x1A   /* SPI, number (12) */
+#define XISTALVO_TAG_START 0x1B        /* SPI, one channel or more (4 each) */
+#define XISTALVO_TAG_STOP 0x1E         /* SPI */
+#define XISTALVO_TAG_STATUS 0x1F       /* SPI */
+#define XISTALVO_TAG_PING 0x31         /* nothing */
 
 /* The tag of a reply is its command's with the first bit set. Replies are laid out as commands are. */
 #define XISTALVO_TAG_OF_REPLY(tag) ((tag) | 0x80)
 
-/* The octets of a command, tag and length counted: stop, expire, status and read number are alike. And those of the three replies. */
+/* The octets of a command, tag and length counted: stop, expire, status and read number are alike, and so are activation and deactivation. And
+ * those of the four replies. */
 #define XISTALVO_START_LENGTH(channels) (5 + 4 * (channels))
 #define XISTALVO_SPI_ALONE_LENGTH 5
 #define XISTALVO_REKEY_LENGTH 19
 #define XISTALVO_SET_NUMBER_LENGTH 17
 #define XISTALVO_SET_WINDOW_LENGTH 7
 #define XISTALVO_PING_LENGTH 3
+#define XISTALVO_KEY_ALONE_LENGTH 5
+#define XISTALVO_INVENTORY_LENGTH 7
 #define XISTALVO_STATUS_REPLY_LENGTH 6       /* SPI, state (1) */
 #define XISTALVO_READ_NUMBER_REPLY_LENGTH 17 /* SPI, number (12) */
 #define XISTALVO_PING_REPLY_LENGTH 3         /* nothing */
-#define XISTALVO_LARGEST_REPLY 17
+#define XISTALVO_INVENTORY_REPLY_LENGTH(keys) (5 + 3 * (keys)) /* count (2), and for each key its ID (2) and state (1) */
+#define XISTALVO_LARGEST_REPLY 197           /* an inventory of 64 keys; the other replies have 17 at most */
 
 /* Limits: of the window of an association that starts, and of one step of set number. */
 #define XISTALVO_LARGEST_WINDOW 1024
@@ -135,7 +169,8 @@ enum xistalvo_answer {
     XISTALVO_SECURED_TOO_SHORT = 5,   /* The secured frame has no room for security header, one octet of data and MAC. */
     XISTALVO_OUTPUT_TOO_SHORT = 6,    /* The output is shorter than the result. */
     XISTALVO_MAC_DIFFERS = 7,         /* The MAC is not the one that key, header, security header and data give. */
-    XISTALVO_NUMBER_REFUSED = 8,      /* The frame's number is outside the window, or above 4,294,967,295. */
+    XISTALVO_NUMBER_REFUSED = 8,      /* The frame's number is outside the window, or above 4,294,967,295; in version 3 also where the IV does
+                                       * not begin with the SPI and zeros as it has to. */
     /* 9 is free: it was a padding error, which no call ever gave. */
     XISTALVO_NUMBERS_USED_UP = 10,    /* The last number is already 4,294,967,295; nothing more can be sent. */
     XISTALVO_SECURED_TOO_LONG = 11,   /* The secured frame would be longer than its kind allows. */
@@ -143,7 +178,10 @@ enum xistalvo_answer {
     XISTALVO_BAD_COMMAND = 13,        /* No such tag, or not the length that the tag has. */
     XISTALVO_UNKNOWN_SPI = 14,        /* No entry has the command's SPI. */
     XISTALVO_WRONG_STATE = 15,        /* The association's state does not allow the command. */
-    XISTALVO_VALUE_REFUSED = 16       /* A channel, window, number or key ID that is not allowed. */
+    XISTALVO_VALUE_REFUSED = 16,      /* A channel, window, number or, below version 3, key ID that is not allowed. */
+    XISTALVO_UNKNOWN_KEY = 17,        /* No key has the ID that the command, or for start the association, names. */
+    XISTALVO_WRONG_KEY_STATE = 18     /* The key's state does not allow the command; or a key is to be deactivated that an operational
+                                       * association names. */
 };
 
 /* Load, secure, check and command return one number: bits 0 to 31 hold the length of the result in octets, bits 32 to 39 the number of octets
@@ -166,9 +204,10 @@ uint64_t xistalvo_load(const uint8_t *image, size_t image_length, uint32_t *numb
  * Done: the number n is numbers[i] + 1, where i is the entry. First the mark of entry i is raised, one at a time, to n/64 rounded down, one
  * octet of the image stored for each raise; the stores are counted, here 0 or 1. The secured frame fills the start of the output: the
  * header, for TC with its length field rewritten, for TM with its secondary header if it has one; the SPI and n, in 4 octets (service 1) or
- * 12 (service 2); the data, encrypted by service 2; the MAC, 16 octets; the OCF if the frame has one; and where the clear frame ends in a
- * check field, a new one over all of that, headers included. The length is that of the secured frame: 22 more than the clear frame's
- * (service 1) or 30 more (service 2). numbers[i] becomes n. The rest of the output, the rest of the image and the other numbers stay.
+ * 12 (service 2; in version 3 these begin with the SPI once more, in 4 octets); the data, encrypted by service 2; the MAC, 16 octets; the OCF
+ * if the frame has one; and where the clear frame ends in a check field, a new one over all of that, headers included. The length is that of
+ * the secured frame: 22 more than the clear frame's (service 1) or 30 more (service 2). numbers[i] becomes n. The rest of the output, the
+ * rest of the image and the other numbers stay.
  * Refused: image, numbers and output stay as they were. The frame is never written. */
 uint64_t xistalvo_secure(uint8_t *image, size_t image_length, uint32_t *numbers, size_t numbers_length, uint8_t kind, uint8_t check_field,
                          uint16_t spi, const uint8_t *frame, size_t frame_length, uint8_t *output, size_t output_length);
@@ -177,7 +216,8 @@ uint64_t xistalvo_secure(uint8_t *image, size_t image_length, uint32_t *numbers,
  *
  * Answers, in this order: 1, 2, 3 (a secured frame has at least its SPI), 12, 4 (the SPI of the frame, with direction 'receive'), 5, 6, 7,
  * 8, 0. The frame's number n is accepted where numbers[i] < n, n is at most numbers[i] + window
- * and at most 4,294,967,295, over whole numbers, where i is the entry.
+ * and at most 4,294,967,295, over whole numbers, where i is the entry. In version 3 n is the last 4 octets of the IV (service 2), and what stands
+ * before them has to be the SPI in 4 octets and 4 zero octets, or the answer is 8.
  * Done: first the mark of entry i is raised, one at a time, to n/64 rounded down, one octet of the image stored for each raise; the stores
  * are counted, at most 16. The clear data alone, without headers, OCF and check field, fills the start of the output, and the length is that
  * of the data. numbers[i] becomes n. The rest of the output, the rest of the image and the other numbers stay.
@@ -197,22 +237,29 @@ uint64_t xistalvo_ground_check(uint8_t *image, size_t image_length, uint32_t *nu
 /* Carries out one management command: octets as a desk sends them, which the caller has checked to be a desk's (xistalvo_check).
  *
  * The state goes from unkeyed by rekey to keyed, by start to operational, by stop back to keyed and by expire back to unkeyed; each asks for the
- * state that it leaves. Key, number and mark stay through all of them. Direction and kind make no difference.
+ * state that it leaves. Number and mark stay through all of them, and so does the key below version 3; in version 3 rekey names the key that is
+ * used from then on. Direction and kind make no difference. Keys go from pre-active by activation to active and by deactivation to deactivated.
  *
- * Answers, in this order: 1; 2; 13; 14, for every command but ping; 15; 16; 6, where the output is shorter than the reply; 0.
+ * Answers, in this order: 1; 2; 13; 14, for every command that names an SPI; 15; 16; 17; 18; 6, where the output is shorter than the reply; 0.
  * 15: start where the state is not keyed, stop where it is not operational, expire where it is not keyed, rekey where it is not unkeyed, set
- * window where it is operational. Set number, status, read number and ping are for every state.
- * 16: start where a channel that it names is not the association's, or the window is not 1 to 1,024; rekey where key ID or number is not 0; set
- * window where the window is not 1 to 1,024; set number where the number n is not above numbers[i], above numbers[i] + 1,024 or above
- * 4,294,967,295, over whole numbers, where i is the entry.
+ * window where it is operational. Set number, status, read number and commands without an SPI are for every state.
+ * 16: start where a channel that it names is not the association's, or the window is not 1 to 1,024; rekey where the number is not 0, or below
+ * version 3 the key ID; set window where the window is not 1 to 1,024; set number where the number n is not above numbers[i], above numbers[i] +
+ * 1,024 or above 4,294,967,295, over whole numbers, where i is the entry.
+ * 17: activation and deactivation where no key has the ID, in images below version 3 always; in version 3 rekey where none has the ID that it
+ * names, and start where none has the ID that the association names.
+ * 18: activation where the key is not pre-active; deactivation where it is not active, or an operational association names it; rekey and start,
+ * in version 3, where it is not active.
  * A channel is named by 4 octets, one number with zeros in front: version (2 bits: 00 for TC and TM, 01 for AOS), spacecraft (10 bits, for AOS
  * 8), virtual channel (6 bits, for TM 3), and for TC with segment header the MAP (6 bits). A start names one channel or more; where the
  * association has a set, each one named has to be in it, and all of the set are served, whichever were named.
- * Done: first the stores, one octet each, counted: start, stop, expire and rekey 1, the state; set window 2, the window's first octet and then
- * its second, also where they stay the same; set number 0 to 16, which raise the mark one at a time to n/64 rounded down, and then numbers[i]
- * becomes n; the others none. Then the reply fills the start of the output, and the length is its length: for status the SPI and the state
- * as they are, for read number the SPI and numbers[i], for ping no value; the other commands have no reply, and their length is 0. The rest of
- * the output, the rest of the image and the other numbers stay.
+ * Done: first the stores, one octet each, counted: start, stop, expire and rekey 1, the state; in version 3 rekey 3, the first octet of the key
+ * ID, its second, and then the state; set window 2, the window's first octet and then its second, also where they stay the same; set number 0 to
+ * 16, which raise the mark one at a time to n/64 rounded down, and then numbers[i] becomes n; activation and deactivation 1, the key's state; the
+ * others none. Then the reply fills the start of the output, and the length is its length: for status the SPI and the state as they are, for read
+ * number the SPI and numbers[i], for ping no value, for inventory how many keys have an ID from the first to the last, and of each, in rising
+ * order, ID and state; the other commands have no reply, and their length is 0. The rest of the output, the rest of the image and the other
+ * numbers stay.
  * Refused: image, numbers and output stay as they were. The command is never written.
  * A loss of power leaves the image after the first j of the stores, for some j, which loads: what xistalvo_command_cut leaves. */
 uint64_t xistalvo_command(uint8_t *image, size_t image_length, uint32_t *numbers, size_t numbers_length, const uint8_t *command,
@@ -222,9 +269,10 @@ uint64_t xistalvo_command(uint8_t *image, size_t image_length, uint32_t *numbers
  *
  * Makes, of the octet stores that raise the mark of this entry one at a time to number/64 rounded down, the first as many as 'stores'
  * says, or all where there are fewer, and returns how many it made. Where the mark is already there or higher there are none.
- * An image whose version is not 1 or 2, whose count is above 32 or whose length is not 2 + 56 k, and an entry that is not below the count
- * k: none is made and 0 returned. No other rule of the image is tested; the mark is where the layout puts it, in the last 4 octets of the body at
- * 2 + 4 k + 52 entry, whatever the contents say of its position.
+ * An image whose version is not 1 to 3, whose count is above 32 or whose length is not 2 + 56 k, or in version 3 7 + 26 k + 35 q where q is its
+ * count of keys, and an entry that is not below the count k: none is made and 0 returned. No other rule of the image is tested; the mark is where
+ * the layout puts it, in the last 4 octets of the body at 2 + 4 k + 52 entry, or in version 3 6 + 4 k + 22 entry, whatever the contents say of its
+ * position.
  * Only those octets of the image are written. Securing, checking and commands make all their stores before they write the output. */
 uint32_t xistalvo_raise(uint8_t *image, size_t image_length, uint8_t entry, uint32_t number, uint32_t stores);
 
@@ -256,6 +304,8 @@ static inline const char *xistalvo_answer_name(unsigned int answer)
     case XISTALVO_UNKNOWN_SPI: return "no association has the SPI";
     case XISTALVO_WRONG_STATE: return "state does not allow the command";
     case XISTALVO_VALUE_REFUSED: return "value not allowed";
+    case XISTALVO_UNKNOWN_KEY: return "no key has the ID";
+    case XISTALVO_WRONG_KEY_STATE: return "state of the key, or its use, does not allow the command";
     default: return "no answer of the module";
     }
 }

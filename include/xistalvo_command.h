@@ -35,8 +35,8 @@ static inline void xistalvo_put_number(uint8_t *place, size_t octets, uint32_t n
     }
 }
 
-/* Tag and length, and for all but ping the SPI; the rest of the value is 0. */
-static inline size_t xistalvo_begin_command(uint8_t tag, uint16_t spi, uint8_t *command, size_t length, size_t room)
+/* Tag and length, and for all but ping the first field of the value, an SPI or a key ID; the rest of the value is 0. */
+static inline size_t xistalvo_begin_command(uint8_t tag, uint16_t first, uint8_t *command, size_t length, size_t room)
 {
     size_t i;
     if (room < length) {
@@ -48,7 +48,7 @@ static inline size_t xistalvo_begin_command(uint8_t tag, uint16_t spi, uint8_t *
     command[0] = tag;
     xistalvo_put_number(command + 1, 2, (uint32_t)(length - 3));
     if (length > 3) {
-        xistalvo_put_number(command + 3, 2, spi);
+        xistalvo_put_number(command + 3, 2, first);
     }
     return length;
 }
@@ -73,10 +73,36 @@ static inline size_t xistalvo_make_start(uint16_t spi, const uint32_t *names, si
     return length;
 }
 
-/* Rekey, with key ID and number 0: XISTALVO_REKEY_LENGTH octets. */
+/* Rekey, with number 0: XISTALVO_REKEY_LENGTH octets. For an image of version 3, with the ID of the key that is to be used. */
+static inline size_t xistalvo_make_rekey_to(uint16_t spi, uint16_t key_id, uint8_t *command, size_t room)
+{
+    size_t length = xistalvo_begin_command(XISTALVO_TAG_REKEY, spi, command, XISTALVO_REKEY_LENGTH, room);
+    if (length != 0) {
+        xistalvo_put_number(command + 5, 2, key_id);
+    }
+    return length;
+}
+
+/* The same for an image of version 1 or 2, with key ID 0. */
 static inline size_t xistalvo_make_rekey(uint16_t spi, uint8_t *command, size_t room)
 {
-    return xistalvo_begin_command(XISTALVO_TAG_REKEY, spi, command, XISTALVO_REKEY_LENGTH, room);
+    return xistalvo_make_rekey_to(spi, 0, command, room);
+}
+
+/* Activation or deactivation: XISTALVO_KEY_ALONE_LENGTH octets. */
+static inline size_t xistalvo_make_key_alone(uint8_t tag, uint16_t key_id, uint8_t *command, size_t room)
+{
+    return xistalvo_begin_command(tag, key_id, command, XISTALVO_KEY_ALONE_LENGTH, room);
+}
+
+/* Inventory of the keys from one ID to another, both included; 0 and 65,535 for all: XISTALVO_INVENTORY_LENGTH octets. */
+static inline size_t xistalvo_make_inventory(uint16_t first, uint16_t last, uint8_t *command, size_t room)
+{
+    size_t length = xistalvo_begin_command(XISTALVO_TAG_INVENTORY, first, command, XISTALVO_INVENTORY_LENGTH, room);
+    if (length != 0) {
+        xistalvo_put_number(command + 5, 2, last);
+    }
+    return length;
 }
 
 /* Set number: XISTALVO_SET_NUMBER_LENGTH octets. */
@@ -105,14 +131,23 @@ static inline size_t xistalvo_make_ping(uint8_t *command, size_t room)
     return xistalvo_begin_command(XISTALVO_TAG_PING, 0, command, XISTALVO_PING_LENGTH, room);
 }
 
+/* The octets that a reply to a command with this tag has; of an inventory, by the count that it holds. 0 where there is none. */
+static inline size_t xistalvo_reply_length(uint8_t tag, const uint8_t *reply, size_t length)
+{
+    switch (tag) {
+    case XISTALVO_TAG_STATUS: return XISTALVO_STATUS_REPLY_LENGTH;
+    case XISTALVO_TAG_READ_NUMBER: return XISTALVO_READ_NUMBER_REPLY_LENGTH;
+    case XISTALVO_TAG_PING: return XISTALVO_PING_REPLY_LENGTH;
+    case XISTALVO_TAG_INVENTORY: return length < 5 ? 0 : (size_t)XISTALVO_INVENTORY_REPLY_LENGTH((size_t)(reply[3] << 8 | reply[4]));
+    default: return 0;
+    }
+}
+
 /* Whether so many octets are a reply to a command with this tag, by their tag and length. */
 static inline int xistalvo_is_reply(uint8_t tag, const uint8_t *reply, size_t length)
 {
-    size_t whole = tag == XISTALVO_TAG_STATUS        ? XISTALVO_STATUS_REPLY_LENGTH
-                 : tag == XISTALVO_TAG_READ_NUMBER ? XISTALVO_READ_NUMBER_REPLY_LENGTH
-                                                   : XISTALVO_PING_REPLY_LENGTH;
-    int has_reply = tag == XISTALVO_TAG_STATUS || tag == XISTALVO_TAG_READ_NUMBER || tag == XISTALVO_TAG_PING;
-    return has_reply && length == whole && reply[0] == XISTALVO_TAG_OF_REPLY(tag) && reply[1] == 0 && reply[2] == whole - 3;
+    size_t whole = xistalvo_reply_length(tag, reply, length);
+    return whole != 0 && length == whole && reply[0] == XISTALVO_TAG_OF_REPLY(tag) && (size_t)(reply[1] << 8 | reply[2]) == whole - 3;
 }
 
 /* The SPI of a reply to status or read number, the state in one to status, and the number in one to read number. */
@@ -129,6 +164,22 @@ static inline uint8_t xistalvo_state_in(const uint8_t *reply)
 static inline uint32_t xistalvo_number_in(const uint8_t *reply)
 {
     return (uint32_t)reply[13] << 24 | (uint32_t)reply[14] << 16 | (uint32_t)reply[15] << 8 | reply[16];
+}
+
+/* How many keys a reply to inventory lists, and ID and state of the i-th of them, from 0. */
+static inline size_t xistalvo_keys_in(const uint8_t *reply)
+{
+    return (size_t)(reply[3] << 8 | reply[4]);
+}
+
+static inline uint16_t xistalvo_key_id_in(const uint8_t *reply, size_t i)
+{
+    return (uint16_t)(reply[XISTALVO_INVENTORY_REPLY_LENGTH(i)] << 8 | reply[XISTALVO_INVENTORY_REPLY_LENGTH(i) + 1]);
+}
+
+static inline uint8_t xistalvo_key_state_in(const uint8_t *reply, size_t i)
+{
+    return reply[XISTALVO_INVENTORY_REPLY_LENGTH(i) + 2];
 }
 
 #ifdef __cplusplus

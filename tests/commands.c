@@ -1,6 +1,7 @@
 /* Management commands (document 02, request 5) through the C interface, with figures of its own: the sentences of the request as a table; every
  * tag with every length; every step of set number and every window, around all limits; a way through all states; the longest start. Each call is
  * also compared with the independent reading (support/both.h). And what include/xistalvo_command.h lays out and reads, beside the tests' own.
+ * Keys and their commands have more in keys.c.
  *
  *   commands [--seed S] [--count N] [--from W] */
 #include "../include/xistalvo_command.h"
@@ -59,10 +60,12 @@ static void lay_out(const struct setting *setting, struct input *input)
     entry->direction = setting->direction;
     entry->state = setting->state;
     entry->spacecraft = 27;
-    entry->channel = setting->version == 2 && setting->kind == 3 ? 0x22 : 5; /* the set of channels 1 and 5 */
+    entry->channel = setting->version >= 2 && setting->kind == 3 ? 0x22 : 5; /* the set of channels 1 and 5 */
     entry->map = setting->kind == 2 ? 9 : 0;
     entry->window = setting->window;
     entry->mark = setting->last / 64;
+    table.key_count = setting->version == 3 ? 1 : 0; /* with ID 0, which the association names */
+    table.keys[0].state = ACTIVE;
     input->which = CALL_COMMAND;
     input->image_length = write_image(&table, input->image);
     input->numbers_length = NUMBER_COUNT;
@@ -208,19 +211,19 @@ static bool has_form(unsigned tag, size_t value)
     case TAG_START: return value >= 6 && value % 4 == 2;
     case TAG_REKEY: return value == 16;
     case TAG_SET_NUMBER: return value == 14;
-    case TAG_SET_WINDOW: return value == 4;
+    case TAG_SET_WINDOW: case TAG_INVENTORY: return value == 4;
     case TAG_PING: return value == 0;
     default: return index_of_tag(tag) < TAG_COUNT && value == 2;
     }
 }
 
-static void try_every_form(void)
+static void try_every_form(unsigned version)
 {
     static struct input input;
     for (unsigned tag = 0; tag < 256; tag++) {
         for (size_t length = 0; length <= LONGEST_TRIED; length++) {
             for (size_t field = length < 4 ? 0 : length - 4; field <= length; field++) {
-                const struct setting setting = {1, 1, 1, tag % 3, 100, 63};
+                const struct setting setting = {version, 1, 1, tag % 3, 100, 63};
                 lay_out(&setting, &input);
                 input.frame_length = length;
                 input.frame[0] = (uint8_t)tag;
@@ -291,8 +294,8 @@ static void try_way_through(void)
     put_spi_alone(&input, TAG_STOP, 9), ask(&input, 15);
     put_spi_alone(&input, TAG_EXPIRE, 9), ask(&input, 0);
     put_start(&input, 9, 0x6C5), ask(&input, 15);
-    put_rekey(&input, 9), ask(&input, 0);
-    put_rekey(&input, 9), ask(&input, 15);
+    put_rekey(&input, 9, 0), ask(&input, 0);
+    put_rekey(&input, 9, 0), ask(&input, 15);
     put_start(&input, 9, 0x6C5), ask(&input, 0);
     expect(memcmp(input.image, image, input.image_length) == 0 && input.numbers[0] == 700, "the way through all states changed something");
     put_set_number(&input, 9, 1000), ask(&input, 0);
@@ -338,7 +341,11 @@ static size_t lay_out_by_header(unsigned tag, unsigned spi, uint32_t value, uint
 {
     switch (tag) {
     case TAG_START: return xistalvo_make_start((uint16_t)spi, &value, 1, command, room);
-    case TAG_REKEY: return xistalvo_make_rekey((uint16_t)spi, command, room);
+    case TAG_REKEY:
+        return value % 2 == 0 ? xistalvo_make_rekey((uint16_t)spi, command, room)
+                              : xistalvo_make_rekey_to((uint16_t)spi, (uint16_t)value, command, room);
+    case TAG_ACTIVATION: case TAG_DEACTIVATION: return xistalvo_make_key_alone((uint8_t)tag, (uint16_t)value, command, room);
+    case TAG_INVENTORY: return xistalvo_make_inventory((uint16_t)(value >> 16), (uint16_t)value, command, room);
     case TAG_SET_NUMBER: return xistalvo_make_set_number((uint16_t)spi, value, command, room);
     case TAG_SET_WINDOW: return xistalvo_make_set_window((uint16_t)spi, (uint16_t)value, command, room);
     case TAG_PING: return xistalvo_make_ping(command, room);
@@ -350,12 +357,30 @@ static void lay_out_by_test(struct input *input, unsigned tag, unsigned spi, uin
 {
     switch (tag) {
     case TAG_START: put_start(input, spi, value); break;
-    case TAG_REKEY: put_rekey(input, spi); break;
+    case TAG_REKEY: put_rekey(input, spi, value % 2 == 0 ? 0 : value & 0xFFFF); break;
+    case TAG_ACTIVATION: case TAG_DEACTIVATION: put_spi_alone(input, tag, value & 0xFFFF); break;
+    case TAG_INVENTORY: put_inventory(input, value >> 16, value & 0xFFFF); break;
     case TAG_SET_NUMBER: put_set_number(input, spi, value); break;
     case TAG_SET_WINDOW: put_set_window(input, spi, value & 0xFFFF); break;
     case TAG_PING: put_command(input, tag, NULL, 0); break;
     default: put_spi_alone(input, tag, spi); break;
     }
+}
+
+/* The keys of a table from one ID to another, beside what the header reads from a reply. */
+static void try_inventory(const uint8_t *reply, const struct table *table, uint32_t first, uint32_t last)
+{
+    size_t listed = 0;
+    for (size_t i = 0; i < table->key_count; i++) {
+        const struct key *key = &table->keys[i];
+        if (first <= key->id && key->id <= last) {
+            expect(listed < xistalvo_keys_in(reply) && xistalvo_key_id_in(reply, listed) == key->id
+                       && xistalvo_key_state_in(reply, listed) == key->state,
+                   "a key is misread, or not listed");
+            listed++;
+        }
+    }
+    expect(listed == xistalvo_keys_in(reply), "keys are listed that are not asked for");
 }
 
 static void try_reply(const struct input *input, unsigned tag, size_t length, const struct association *association, uint32_t last)
@@ -385,6 +410,9 @@ static void try_header(struct options options, uint64_t number)
     const struct association *association = &table.entries[0];
     unsigned tag = every_tag[random_below(&test_random, TAG_COUNT)];
     uint32_t value = (uint32_t)random_any(&test_random);
+    if (tag == TAG_INVENTORY && random_percent(&test_random, 50)) {
+        value &= 0xFFFF; /* from ID 0 on */
+    }
     if (tag == TAG_START) {
         unsigned channel = any_channel(&test_random, association);
         value = xistalvo_channel_name((uint8_t)association->kind, (uint16_t)association->spacecraft, (uint8_t)channel, (uint8_t)association->map);
@@ -404,6 +432,9 @@ static void try_header(struct options options, uint64_t number)
     struct outcome outcome = run(&input);
     expect(outcome.answer != 13 && outcome.answer != 14, "what the header lays out has a wrong form");
     try_reply(&input, tag, outcome.length, association, last);
+    if (tag == TAG_INVENTORY) {
+        try_inventory(input.output, &table, value >> 16, value & 0xFFFF);
+    }
 }
 
 int main(int argument_count, char **arguments)
@@ -416,7 +447,8 @@ int main(int argument_count, char **arguments)
         judge_case(i);
     }
     try_way_through();
-    try_every_form();
+    try_every_form(1);
+    try_every_form(3);
     try_every_step();
     for (unsigned window = 0; window <= 65535; window += window < 1100 || window >= 65500 ? 1 : 50) {
         try_window(window);

@@ -6,8 +6,9 @@
  * An input is one call. Inputs come in worlds: two ends of a link with random associations, and about forty calls on them. The generator of
  * world W is made from the seed and W alone, so --from W takes a run up there. At the end the answers are counted by call, kind and service
  * of the association that the input was made for, TM associations with a set of channels and TM frames with a secondary header apart; those to
- * commands by tag, and what they asked for at limits; a long run that misses an answer or a limit that can be reached fails, and a longer one
- * that misses a length of a secondary header, with a check field or without, or changed no frame with both in each bit. */
+ * commands by tag, and what they asked for at limits; what was met of key parts, and broken in them; a long run that misses an answer or a limit
+ * that can be reached fails, and a longer one that misses a length of a secondary header, with a check field or without, or changed no frame with
+ * both in each bit. */
 #include "support/both.h"
 #include "support/commands.h"
 #include "support/options.h"
@@ -17,7 +18,7 @@
 #include <stdio.h>
 #include <string.h>
 
-enum { CALLS_PER_WORLD = 40, KINDS = 4, SET_ROW = KINDS + 1, STAMP_ROW, ROWS, ANSWERS = 17 };
+enum { CALLS_PER_WORLD = 40, KINDS = 4, SET_ROW = KINDS + 1, STAMP_ROW, ROWS, VERSIONS = 3, ANSWERS = 19 };
 enum { ENOUGH_FOR_EVERY_ANSWER = 50000, ENOUGH_FOR_EVERY_LIMIT = 150000 };
 enum { MOST_SECONDARY = 64, ENOUGH_FOR_EVERY_LENGTH = 200000 }; /* octets of a secondary header */
 
@@ -25,6 +26,23 @@ enum { MOST_SECONDARY = 64, ENOUGH_FOR_EVERY_LENGTH = 200000 }; /* octets of a s
 enum { LIMITS = 5 };
 static const uint32_t window_limits[LIMITS] = {0, 1, 1024, 1025, 65535};
 static const uint32_t step_limits[LIMITS] = {0, 1, 1024, 1025, 1088};
+
+/* What is broken in an image of version 3 that keeps every other rule. */
+enum key_fault {
+    KEYS_65, IDS_EQUAL, IDS_FALL, KEY_STATE, KEY_PART_POSITION, KEY_PART_SPI, KEY_NOT_THERE, KEY_PRE_ACTIVE, KEY_DEACTIVATED, ENTRIES_33, KEY_FAULTS
+};
+static const char *const key_fault_names[KEY_FAULTS] = {
+    "65 keys", "equal IDs", "IDs that fall", "a key's state", "position of the key part", "SPI of the last entry", "operational and no key there",
+    "a key pre-active", "a key deactivated", "33 entries"};
+
+/* What a key part has that was loaded. */
+enum key_sight { NO_KEYS, ONE_KEY, ALL_KEYS, ID_0, ID_65535, SHARED, STRAY, KEY_SIGHTS };
+static const char *const key_sight_names[KEY_SIGHTS] = {
+    "no key", "one", "64", "ID 0", "ID 65,535", "a key that two operational bodies name", "a body that names no key there is"};
+
+/* The commands that ask for a key's state. */
+enum { ABOUT_KEYS = 4, KEY_STATES = 3, PREFIX = SEQUENCE_LENGTH - 4 };
+static const unsigned tags_about_keys[ABOUT_KEYS] = {TAG_START, TAG_REKEY, TAG_ACTIVATION, TAG_DEACTIVATION};
 
 struct run {
     struct options options;
@@ -42,7 +60,14 @@ struct run {
     uint64_t tally[3][ROWS][3][ANSWERS];
     uint64_t commands[TAG_COUNT + 1][ANSWERS];       /* tag, or any that names none; answer */
     uint64_t command_cuts;
-    uint64_t starts[3][SET_ROW + 1][3];              /* version; kind; done, refused by 15, by 16 */
+    uint64_t starts[VERSIONS + 1][SET_ROW + 1][5];   /* version; kind; done, refused by 15, 16, 17, 18 */
+    uint64_t key_faults[KEY_FAULTS];                 /* loads refused for it alone */
+    uint64_t key_sights[KEY_SIGHTS];                 /* loads done */
+    uint64_t keys_asked[ABOUT_KEYS][KEY_STATES + 1]; /* in version 3: command; state of the key, or none there; that were done or refused by 17, 18 */
+    uint64_t in_use;                                 /* deactivations of an active key, refused */
+    size_t changed_octet;                            /* of the IV's prefix in the frame that was just made, whose number would do; or PREFIX */
+    uint64_t prefixes[PREFIX];                       /* checks refused by 8 for it, in version 3 */
+    uint64_t other_ivs;                              /* round trips between versions whose IVs differ, refused by 8 */
     uint64_t windows_held[3][LIMITS];                /* state; window of the body, of starts */
     uint64_t windows_asked[3][LIMITS];               /* state; window of set window */
     uint64_t steps[2][LIMITS];                       /* well below the last number of all, or close to it; step of set number */
@@ -135,7 +160,7 @@ static void strain_field(struct random *random, struct input *input)
         return;
     }
     struct association *entry = &table.entries[random_below(random, (uint32_t)table.count)];
-    switch (random_below(random, 11)) {
+    switch (random_below(random, 12)) {
     case 0: entry->service = RANDOM_OF(random, 0, 3, 255); break;
     case 1: entry->kind = RANDOM_OF(random, 0, 1, 2, 3, 4, 5, 255); break;
     case 2: entry->direction = RANDOM_OF(random, 0, 1, 2, 3, 255); break;
@@ -146,6 +171,7 @@ static void strain_field(struct random *random, struct input *input)
     case 7: entry->window = RANDOM_OF(random, 0, 1, 1024, 1025, 65535); break;
     case 8: entry->mask[5] = (uint8_t)RANDOM_OF(random, 0, 1, 128, 255); break;
     case 9: entry->mark = RANDOM_OF(random, (1u << 26) - 1, 1u << 26, (1u << 26) + 1, UINT32_MAX); break;
+    case 10: entry->key_id = RANDOM_OF(random, 0, 1, 65534, 65535); break;
     default: entry->spi = RANDOM_OF(random, 0, 1, 65534, 65535); break;
     }
     write_image(&table, input->image);
@@ -154,33 +180,144 @@ static void strain_field(struct random *random, struct input *input)
 /* An octet of the contents is changed by one: an SPI equal to its neighbour, a position beside its body. */
 static void strain_contents(struct random *random, struct input *input)
 {
-    uint32_t contents = 4u * input->image[1];
+    uint32_t contents = 4u * input->image[1] + (input->image[0] == 3 ? 4 : 0);
     if (contents != 0 && contents + 2 <= input->image_length) {
         input->image[2 + random_below(random, contents)] += (uint8_t)RANDOM_OF(random, 1, 255);
     }
 }
 
-/* An image that would be right if 33 entries were allowed: every SPI rises, every position fits, every body is one that is allowed. */
-static void lay_out_33(struct input *input)
+static void put_entry(uint8_t *image, size_t i, unsigned spi, size_t position)
 {
-    enum { COUNT = 33, BODY = 52 };
-    uint8_t body[BODY];
-    if (input->image[1] == 0) {
-        return;
-    }
-    memcpy(body, input->image + 2 + 4 * input->image[1], BODY);
-    input->image[1] = COUNT;
-    for (unsigned i = 0; i < COUNT; i++) {
-        unsigned position = 2 + 4 * COUNT + BODY * i;
-        const uint8_t entry[] = {0, (uint8_t)(i + 1), (uint8_t)(position >> 8), (uint8_t)position};
-        memcpy(input->image + 2 + 4 * i, entry, sizeof entry);
-        memcpy(input->image + position, body, BODY);
-    }
-    input->image_length = 2 + 56 * COUNT;
+    const uint8_t entry[] = {(uint8_t)(spi >> 8), (uint8_t)spi, (uint8_t)(position >> 8), (uint8_t)position};
+    memcpy(image + 2 + 4 * i, entry, sizeof entry);
 }
 
-static void break_image(struct random *random, struct input *input)
+/* An image that would be right if 33 entries were allowed: every SPI rises, every position fits, every body is one that is allowed. */
+static enum key_fault lay_out_33(struct input *input)
 {
+    enum { COUNT = 33 };
+    static uint8_t image[IMAGE_ROOM];
+    struct table table;
+    if (!read_image(input->image, input->image_length, &table) || table.count == 0) {
+        return KEY_FAULTS;
+    }
+    size_t first = body_position(table.version, table.count, 0), body = body_position(table.version, table.count, 1) - first;
+    size_t end = body_position(table.version, table.count, table.count), end_33 = body_position(table.version, COUNT, COUNT);
+    image[0] = (uint8_t)table.version;
+    image[1] = COUNT;
+    for (size_t i = 0; i < COUNT; i++) {
+        put_entry(image, i, (unsigned)i + 1, body_position(table.version, COUNT, i));
+        memcpy(image + body_position(table.version, COUNT, i), input->image + first, body);
+    }
+    if (table.version == 3) {
+        put_entry(image, COUNT, 65535, end_33);
+    }
+    memcpy(image + end_33, input->image + end, input->image_length - end); /* the key part, if there is one */
+    input->image_length += end_33 - end;
+    memcpy(input->image, image, input->image_length);
+    return table.version == 3 ? ENTRIES_33 : KEY_FAULTS;
+}
+
+/* An image that would be right if 65 keys were allowed. */
+static void lay_out_65(struct table *table, struct input *input)
+{
+    enum { STORED = 35, STEP = 1000 };
+    table->key_count = MOST_KEYS;
+    for (size_t i = 0; i < MOST_KEYS; i++) {
+        table->keys[i].id = STEP * (unsigned)i;
+        table->keys[i].state = ACTIVE;
+        memset(table->keys[i].octets, (int)i, KEY_LENGTH);
+    }
+    for (size_t i = 0; i < table->count; i++) {
+        table->entries[i].key_id = STEP * (unsigned)i;
+    }
+    input->image_length = write_image(table, input->image) + STORED;
+    uint8_t *last = input->image + key_position(table->count, MOST_KEYS);
+    memcpy(last, last - STORED, STORED);
+    last[0] = (uint8_t)(STEP * MOST_KEYS >> 8);
+    last[1] = (uint8_t)(STEP * MOST_KEYS & 0xFF);
+    input->image[key_position(table->count, 0) - 1] = MOST_KEYS + 1;
+}
+
+/* Gives a key and the IDs of two neighbours a state or an order that breaks a rule; an operational body, a key that does. */
+static bool strain_named_key(struct random *random, struct table *table, enum key_fault fault)
+{
+    size_t entry = random_below(random, (uint32_t)table->count);
+    struct association *body = &table->entries[entry];
+    size_t named = find_key(table, body->key_id);
+    if (body->state != 2) {
+        return false;
+    }
+    if (fault == KEY_NOT_THERE) {
+        while (find_key(table, body->key_id) < table->key_count) {
+            body->key_id = (body->key_id + RANDOM_OF(random, 1, 255, 256)) & 0xFFFF;
+        }
+    } else {
+        table->keys[named].state = fault == KEY_PRE_ACTIVE ? PRE_ACTIVE : DEACTIVATED;
+    }
+    return true;
+}
+
+static bool strain_key(struct random *random, struct table *table, enum key_fault fault)
+{
+    size_t at = table->key_count == 0 ? 0 : random_below(random, (uint32_t)table->key_count);
+    struct key *key = &table->keys[at], *other = &table->keys[at == 0 ? 1 : at - 1];
+    unsigned id = key->id;
+    if (fault == KEY_STATE) {
+        key->state = RANDOM_OF(random, 3, 4, 128, 255);
+        return table->key_count != 0;
+    }
+    if (table->key_count < 2) {
+        return false;
+    }
+    for (size_t i = 0; i < table->count; i++) { /* so that no operational body loses its key by the change alone */
+        table->entries[i].state = table->entries[i].state == 2 ? 1 : table->entries[i].state;
+    }
+    key->id = fault == IDS_EQUAL ? other->id : key->id;
+    if (fault == IDS_FALL) {
+        key->id = other->id;
+        other->id = id;
+    }
+    return true;
+}
+
+/* Breaks one rule of version 3, or none where the image does not lend itself to it. */
+static enum key_fault break_keys(struct random *random, struct input *input)
+{
+    struct table table;
+    enum key_fault fault = (enum key_fault)random_below(random, ENTRIES_33);
+    bool is_broken = true;
+    if (!read_image(input->image, input->image_length, &table) || table.version != 3) {
+        return KEY_FAULTS;
+    }
+    size_t last = 2 + 4 * table.count;
+    switch (fault) {
+    case KEYS_65:
+        lay_out_65(&table, input);
+        return fault;
+    case KEY_PART_SPI:
+        input->image[last + random_below(random, 2)] ^= (uint8_t)RANDOM_OF(random, 1, 128, 255);
+        return fault;
+    case KEY_PART_POSITION:
+        input->image[last + 2 + random_below(random, 2)] += (uint8_t)RANDOM_OF(random, 1, 255);
+        return fault;
+    case KEY_NOT_THERE: case KEY_PRE_ACTIVE: case KEY_DEACTIVATED:
+        is_broken = table.count != 0 && strain_named_key(random, &table, fault);
+        break;
+    default:
+        is_broken = strain_key(random, &table, fault);
+        break;
+    }
+    write_image(&table, input->image);
+    return is_broken ? fault : KEY_FAULTS;
+}
+
+/* Gives what was broken, where it is a rule of version 3 and no other. */
+static enum key_fault break_image(struct random *random, struct input *input)
+{
+    if (input->image_length != 0 && input->image[0] == 3 && random_percent(random, 40)) {
+        return break_keys(random, input);
+    }
     switch (random_below(random, 8)) {
     case 0:
     case 1:
@@ -196,15 +333,18 @@ static void break_image(struct random *random, struct input *input)
         input->image_length -= random_between(random, 1, (uint32_t)input->image_length);
         break;
     case 5: /* too long */
-        input->image_length += RANDOM_OF(random, 1, 4, 52, 56);
+        input->image_length += RANDOM_OF(random, 1, 4, 22, 26, 35, 52, 56);
         break;
     case 6:
-        lay_out_33(input);
-        break;
-    default: /* version or count */
-        input->image[random_below(random, 2)] = (uint8_t)RANDOM_OF(random, 0, 1, 2, 3, 31, 32, 33, 255);
+        return lay_out_33(input);
+    default: /* version, count, or the count of keys */
+        input->image[random_below(random, 2)] = (uint8_t)RANDOM_OF(random, 0, 1, 2, 3, 4, 31, 32, 33, 255);
+        if (random_percent(random, 50) && input->image[0] == 3 && input->image[1] <= MOST_ENTRIES) {
+            input->image[key_position(input->image[1], 0) - 1] += (uint8_t)RANDOM_OF(random, 1, 255);
+        }
         break;
     }
+    return KEY_FAULTS;
 }
 
 static void break_numbers(struct random *random, struct input *input)
@@ -412,7 +552,7 @@ static void count_limits(struct run *run, const struct input *input, const struc
     const struct association *association = &target->association;
     const uint8_t *rest = input->frame + 5;
     unsigned row = association->has_set ? SET_ROW : association->kind;
-    if (outcome->answer != 0 && outcome->answer != 15 && outcome->answer != 16) {
+    if (outcome->answer != 0 && (outcome->answer < 15 || outcome->answer > 18)) {
         return;
     }
     switch (input->frame[0]) {
@@ -434,8 +574,31 @@ static void count_limits(struct run *run, const struct input *input, const struc
     }
 }
 
+/* In version 3, the state of the key that the command asks for, where the answer turns on it. */
+static void count_key(struct run *run, const struct input *before, const struct target *target, const struct outcome *outcome)
+{
+    struct table table;
+    unsigned tag = before->frame_length < 5 ? 0 : before->frame[0];
+    if (!read_image(before->image, before->image_length, &table) || table.version != 3
+        || (outcome->answer != 0 && outcome->answer != 17 && outcome->answer != 18)) {
+        return;
+    }
+    for (size_t i = 0; i < ABOUT_KEYS; i++) {
+        unsigned id = (unsigned)octets_as_number(before->frame + (tag == TAG_REKEY ? 5 : 3), 2);
+        if (tag == TAG_START && target->is_held) {
+            id = table.entries[target->entry].key_id;
+        }
+        size_t named = find_key(&table, id);
+        if (tags_about_keys[i] == tag) {
+            run->keys_asked[i][named == table.key_count ? KEY_STATES : table.keys[named].state]++;
+            run->in_use += tag == TAG_DEACTIVATION && outcome->answer == 18 && table.keys[named].state == ACTIVE;
+        }
+    }
+}
+
 static void count_command(struct run *run, const struct input *before, const struct target *target, const struct outcome *outcome)
 {
+    count_key(run, before, target, outcome);
     size_t row = before->frame_length == 0 ? TAG_COUNT : index_of_tag(before->frame[0]);
     run->inputs++;
     run->commands[row][outcome->answer]++;
@@ -471,7 +634,7 @@ static unsigned spi_of(const struct input *input)
         return input->spi;
     }
     if (input->which == CALL_COMMAND) {
-        return input->frame_length < 5 ? 0 : (unsigned)octets_as_number(input->frame + 3, 2);
+        return input->frame_length < 5 || !names_spi(input->frame[0]) ? 0 : (unsigned)octets_as_number(input->frame + 3, 2);
     }
     if (!read_secured_frame(input->kind, input->check_field != 0, input->frame, input->frame_length, &header)) {
         return 0;
@@ -521,18 +684,52 @@ static struct outcome run_input(struct run *run, struct input *input, const stru
     return outcome;
 }
 
+/* What a key part that was loaded has. */
+static void see_keys(struct run *run, const struct input *input)
+{
+    struct table table;
+    if (!read_image(input->image, input->image_length, &table) || table.version != 3) {
+        return;
+    }
+    bool is_shared = false, is_stray = false;
+    for (size_t i = 0; i < table.count; i++) {
+        is_stray = is_stray || find_key(&table, table.entries[i].key_id) == table.key_count;
+        for (size_t j = 0; j < i; j++) {
+            bool are_serving = table.entries[i].state == 2 && table.entries[j].state == 2;
+            is_shared = is_shared || (are_serving && table.entries[i].key_id == table.entries[j].key_id);
+        }
+    }
+    run->key_sights[NO_KEYS] += table.key_count == 0;
+    run->key_sights[ONE_KEY] += table.key_count == 1;
+    run->key_sights[ALL_KEYS] += table.key_count == MOST_KEYS;
+    run->key_sights[ID_0] += table.key_count != 0 && table.keys[0].id == 0;
+    run->key_sights[ID_65535] += table.key_count != 0 && table.keys[table.key_count - 1].id == 65535;
+    run->key_sights[SHARED] += is_shared;
+    run->key_sights[STRAY] += is_stray;
+}
+
 static void try_load(struct run *run, struct end *end)
 {
     static struct input input;
     struct target target = any_target(run, end, 1);
+    enum key_fault fault = KEY_FAULTS;
     input_of_end(&input, CALL_LOAD, end);
     if (random_percent(&run->random, 50)) {
-        break_image(&run->random, &input);
+        fault = break_image(&run->random, &input);
     }
     if (random_percent(&run->random, 15)) {
         break_numbers(&run->random, &input);
     }
-    run_input(run, &input, &target, end);
+    struct outcome outcome = run_input(run, &input, &target, end);
+    if (outcome.answer == 0) {
+        see_keys(run, &input);
+    }
+    if (fault < KEY_FAULTS) {
+        run->key_faults[fault]++;
+        if (outcome.answer != 1) {
+            both_fail("an image that breaks a rule of version 3 loads");
+        }
+    }
 }
 
 /* Demand 2: what one end secures the other releases. Then the same frame again is a replay. */
@@ -550,11 +747,11 @@ static void try_round_trip(struct run *run, const struct input *sent, const stru
     if (!serves_channel(&table.entries[target->entry], clear.channel)) {
         return;
     }
-    if (table.entries[target->entry].state != 2) {
-        table.entries[target->entry].state = 2;
-        any_window(random, &table.entries[target->entry]);
-        set_table(other, &table);
+    if (!bring_to_service(random, &table, target->entry, target->association.key)) {
+        return;
     }
+    set_table(other, &table);
+    bool is_alike = make_iv_alike(&target->association, &table.entries[target->entry]);
     uint32_t window = table.entries[target->entry].window;
     set_number(other, target->entry, number - random_between(random, 1, number < window ? number : window));
 
@@ -569,6 +766,13 @@ static void try_round_trip(struct run *run, const struct input *sent, const stru
         input.output_length = data_length;
     }
     struct outcome checking = run_input(run, &input, target, other);
+    if (!is_alike) { /* 'demand 2 then supposes that both ends' images make the IV alike' */
+        if (checking.answer != 8) {
+            both_fail("an IV that the other end's image makes otherwise was not refused by 8");
+        }
+        run->other_ivs++;
+        return;
+    }
     if (checking.answer != 0 || checking.length != data_length || memcmp(input.output, sent->frame + clear.length, data_length) != 0) {
         both_fail("what one end secured was not released at the other");
     }
@@ -647,9 +851,12 @@ static void try_secure(struct run *run, struct world *world, size_t side)
     }
 }
 
-/* A sequence number on either side of every limit, with the last number accepted as it stands. */
-static void any_sequence(struct random *random, uint32_t last, unsigned window, uint8_t sequence[SEQUENCE_LENGTH])
+/* A sequence number on either side of every limit, with the last number accepted as it stands; as the association makes its IV, or with an octet
+ * in front of the number that is another, which is given, or as another version makes it. */
+static size_t any_sequence(struct random *random, const struct association *association, uint32_t last, uint8_t sequence[SEQUENCE_LENGTH])
 {
+    struct association other = *association;
+    unsigned window = association->window;
     uint64_t number = (uint64_t)last + 1;
     uint32_t chance = random_below(random, 100);
     if (chance < 30) {
@@ -669,10 +876,18 @@ static void any_sequence(struct random *random, uint32_t last, unsigned window, 
     } else if (chance < 78) {
         number = 4294967296u + last + 1; /* its last 4 octets are in the window */
     }
-    sequence_of_number(number, sequence);
-    if (chance >= 97) {
-        sequence[random_below(random, 8)] ^= (uint8_t)RANDOM_OF(random, 1, 128, 255);
+    if (chance < 80 || chance >= 83) {
+        iv_of_number(association, number, sequence);
+    } else {
+        other.names_key = !other.names_key;
+        iv_of_number(&other, number, sequence);
     }
+    if (chance < 94) {
+        return PREFIX;
+    }
+    size_t octet = random_below(random, PREFIX);
+    sequence[octet] ^= (uint8_t)RANDOM_OF(random, 1, 128, 255);
+    return octet;
 }
 
 /* A secured frame made by the reading, with any number, and its length; 0 where no such clear frame can be secured. */
@@ -682,7 +897,7 @@ static size_t make_secured_frame(struct run *run, const struct association *asso
     uint8_t sequence[SEQUENCE_LENGTH];
     struct header header;
     size_t length = make_clear_frame(&run->random, association, has_field, any_data_length(&run->random, association), clear);
-    any_sequence(&run->random, last, association->window, sequence);
+    run->changed_octet = any_sequence(&run->random, association, last, sequence);
     if (!read_clear_frame(association->kind, has_field, clear, length, &header)
         || length + security_header_length(association->service) + MAC_LENGTH > header.largest) {
         return 0;
@@ -714,6 +929,7 @@ static void try_check(struct run *run, struct end *end)
     if (random_percent(random, 30)) {
         size_t other_length = make_secured_frame(run, association, has_field, last, other_frame);
         break_frame(random, &input, other_frame, other_length);
+        run->changed_octet = PREFIX;
     }
     struct header header;
     size_t added = security_header_length(association->service) + MAC_LENGTH;
@@ -723,7 +939,20 @@ static void try_check(struct run *run, struct end *end)
     any_output(random, &input, input.frame_length > added ? input.frame_length - added : 1);
     break_rest(random, &input);
     try_flips(run, &input);
-    run_input(run, &input, &target, end);
+    struct outcome outcome = run_input(run, &input, &target, end);
+    if (outcome.answer == 8 && run->changed_octet < PREFIX && association->service == 2 && association->names_key && last != UINT32_MAX) {
+        run->prefixes[run->changed_octet]++;
+    }
+}
+
+/* The octets of the reply that the input's command would have, or 1 where it has none. */
+static size_t octets_of_reply(const struct input *input)
+{
+    static struct effect effect;
+    const struct call call = {input->image, input->image_length, input->numbers, input->numbers_length, 0, false, 0, input->frame,
+                              input->frame_length, FRAME_ROOM};
+    reading_command(&call, &effect);
+    return effect.length == 0 ? 1 : effect.length;
 }
 
 /* Mostly on a copy of the end, so that not all associations come to rest. */
@@ -743,7 +972,7 @@ static void try_command(struct run *run, struct end *own)
     if (random_percent(random, 15)) {
         break_command(random, &input);
     }
-    any_output(random, &input, reply_length(tag) == 0 ? 1 : reply_length(tag));
+    any_output(random, &input, octets_of_reply(&input));
     break_rest(random, &input);
     if (random_percent(random, 20)) {
         static struct input cut;
@@ -815,7 +1044,8 @@ static unsigned print_limits(const char *name, size_t rows, const uint64_t (*cou
     return faults;
 }
 
-/* 14 needs a command with an SPI; 15 and 16 are for those that ask for a state and a value, and 6 for those that have a reply. */
+/* 14 needs a command with an SPI; 15 and 16 are for those that ask for a state and a value, 17 and 18 for those that need a key, and 6 for those
+ * that have a reply. */
 static bool command_can_give(size_t tag, unsigned answer)
 {
     if (tag == TAG_COUNT) {
@@ -825,13 +1055,15 @@ static bool command_can_give(size_t tag, unsigned answer)
     case 0: case 1: case 2: case 13:
         return true;
     case 6:
-        return reply_length(every_tag[tag]) != 0;
+        return reply_length(every_tag[tag]) != 0 || every_tag[tag] == TAG_INVENTORY;
     case 14:
-        return every_tag[tag] != TAG_PING;
+        return names_spi(every_tag[tag]);
     case 15:
-        return every_tag[tag] != TAG_SET_NUMBER && reply_length(every_tag[tag]) == 0;
+        return names_spi(every_tag[tag]) && every_tag[tag] != TAG_SET_NUMBER && reply_length(every_tag[tag]) == 0;
     case 16:
         return every_tag[tag] == TAG_START || every_tag[tag] == TAG_REKEY || every_tag[tag] == TAG_SET_WINDOW || every_tag[tag] == TAG_SET_NUMBER;
+    case 17: case 18:
+        return every_tag[tag] == TAG_START || every_tag[tag] == TAG_REKEY || every_tag[tag] == TAG_ACTIVATION || every_tag[tag] == TAG_DEACTIVATION;
     default:
         return false;
     }
@@ -841,16 +1073,17 @@ static unsigned print_starts(const struct run *run)
 {
     static const char *const names[SET_ROW + 1] = {"-", "1", "2", "3", "4", "set"};
     unsigned faults = 0;
-    printf("starts done, refused by 15 and by 16, by version and kind:");
-    for (unsigned version = 1; version <= 2; version++) {
+    printf("starts done, refused by 15 and by 16, in version 3 by 17 and 18, by version and kind:");
+    for (unsigned version = 1; version <= VERSIONS; version++) {
         for (unsigned row = 1; row <= SET_ROW; row++) {
-            bool can_be = row == SET_ROW ? version == 2 : row != 3 || version == 1;
+            bool can_be = row == SET_ROW ? version >= 2 : row != 3 || version == 1;
             const uint64_t *counts = run->starts[version][row];
-            if (can_be) {
-                printf(" %u/%s %" PRIu64 " %" PRIu64 " %" PRIu64, version, names[row], counts[0], counts[1], counts[2]);
-                for (unsigned i = 0; i < 3; i++) {
-                    faults += counts[i] == 0;
+            for (unsigned i = 0; can_be && i < (version == 3 ? 5 : 3); i++) {
+                if (i == 0) {
+                    printf(" %u/%s", version, names[row]);
                 }
+                printf(" %" PRIu64, counts[i]);
+                faults += counts[i] == 0;
             }
         }
     }
@@ -858,9 +1091,37 @@ static unsigned print_starts(const struct run *run)
     return faults;
 }
 
+static unsigned print_counts(const char *what, size_t count, const char *const *names, const uint64_t *counts)
+{
+    unsigned faults = 0;
+    printf("%s", what);
+    for (size_t i = 0; i < count; i++) {
+        printf("%s%s%s%" PRIu64, i == 0 ? ": " : ", ", names == NULL ? "" : names[i], names == NULL ? "" : " ", counts[i]);
+        faults += counts[i] == 0;
+    }
+    putchar('\n');
+    return faults;
+}
+
+/* What was met of keys in version 3. */
+static unsigned print_keys(const struct run *run)
+{
+    static const char *const states[KEY_STATES + 1] = {"pre-active", "active", "deactivated", "not there"};
+    unsigned faults = print_counts("loads of version 3 refused for one fault", KEY_FAULTS, key_fault_names, run->key_faults);
+    faults += print_counts("loads of version 3 done", KEY_SIGHTS, key_sight_names, run->key_sights);
+    for (size_t i = 0; i < ABOUT_KEYS; i++) {
+        char what[64];
+        snprintf(what, sizeof what, "keys that %s was about", tag_names[index_of_tag(tags_about_keys[i])]);
+        faults += print_counts(what, KEY_STATES + 1, states, run->keys_asked[i]);
+    }
+    printf("deactivations refused for a key in use: %" PRIu64 "; round trips between IVs that differ: %" PRIu64 "\n", run->in_use, run->other_ivs);
+    faults += print_counts("checks refused for one octet of the IV's prefix", PREFIX, NULL, run->prefixes);
+    return faults + (run->in_use == 0) + (run->other_ivs == 0);
+}
+
 static unsigned print_commands(const struct run *run)
 {
-    static const unsigned answers[] = {0, 1, 2, 13, 14, 15, 16, 6};
+    static const unsigned answers[] = {0, 1, 2, 13, 14, 15, 16, 17, 18, 6};
     unsigned faults = 0;
     printf("%-14s", "command");
     for (size_t i = 0; i < sizeof answers / sizeof answers[0]; i++) {
@@ -883,7 +1144,7 @@ static unsigned print_commands(const struct run *run)
 /* What commands asked for, at limits. An operational body has no window outside 1 to 1,024. */
 static unsigned print_asked(const struct run *run)
 {
-    unsigned faults = print_starts(run);
+    unsigned faults = print_starts(run) + print_keys(run);
     faults += print_limits("windows of bodies that were to start, by state 0, 1", 2, run->windows_held, window_limits);
     faults += print_limits("windows asked for, by state 0, 1, 2", 3, run->windows_asked, window_limits);
     faults += print_limits("steps asked for, and close to the last number", 2, run->steps, step_limits);

@@ -3,7 +3,7 @@
  *   keeping [--seed S] [--count N] [--from W]
  *
  * A run is a process that sends frames, or checks frames that were sent, and between them stops, changes and starts its association by
- * management commands, and is killed: between any two of its system calls or in the middle
+ * management commands, in images of version 3 with another key, and is killed: between any two of its system calls or in the middle
  * of a write, as a number of the run says, or from outside at a random moment; one in ten is left alone. Three ways are tried: a file; memory behind a driver, one octet
  * at a time; and memory that is lent to the module itself. A process that is killed hands its files and its shared memory on, and nothing
  * else. Over all runs of an end, demand 3: each number that went out exceeds those before, and so does each that was released, with the data
@@ -89,7 +89,8 @@ enum way { IN_FILE, BEHIND_DRIVER, LENT_ITSELF, WAYS };
 static const char *const paths[] = {"sender", "receiver"}; /* in a folder of the test's own */
 static const char *const way_names[] = {"a file", "memory behind a driver", "memory lent itself"};
 
-enum { LENGTH = XISTALVO_IMAGE_LENGTH(1), SPI = 9, MOST_FRAMES = 200, DATA_LENGTH = 8, FRAME_LENGTH = 5 + DATA_LENGTH + 22, RUNS_OF_LINK = 10 };
+enum { KEYS = 64, NO_KEY = KEYS };
+enum { MOST_LENGTH = XISTALVO_IMAGE_LENGTH_3(1, KEYS), SPI = 9, MOST_FRAMES = 200, DATA_LENGTH = 8, FRAME_LENGTH = 5 + DATA_LENGTH + 22, RUNS_OF_LINK = 10 };
 
 struct frame {
     uint8_t octets[FRAME_LENGTH];
@@ -97,6 +98,8 @@ struct frame {
 
 struct link {
     enum way way;
+    bool has_keys; /* both images are of version 3 */
+    size_t length;
     uint8_t *memory[2];             /* shared: it outlives a process */
     struct frame sent[MOST_FRAMES]; /* the last ones */
     size_t sent_count;
@@ -104,9 +107,10 @@ struct link {
 };
 
 struct totals {
-    uint64_t frames, releases, kills, stopped /* associations that a kill left so */;
+    uint64_t frames, releases, kills, stopped /* associations that a kill left so */, rekeyed /* that it left with another key ID */;
 };
 static struct totals totals;
+static size_t length_of_link; /* for the driver */
 
 static uint32_t number_in(const uint8_t *frame)
 {
@@ -116,7 +120,7 @@ static uint32_t number_in(const uint8_t *frame)
 static uint32_t number_after_load(const uint8_t *image)
 {
     uint32_t numbers[XISTALVO_NUMBERS];
-    if (XISTALVO_ANSWER(xistalvo_load(image, LENGTH, numbers, XISTALVO_NUMBERS)) != XISTALVO_DONE) {
+    if (XISTALVO_ANSWER(xistalvo_load(image, length_of_link, numbers, XISTALVO_NUMBERS)) != XISTALVO_DONE) {
         both_fail("between two octets the memory holds no image");
     }
     return numbers[0];
@@ -126,7 +130,8 @@ static uint32_t number_after_load(const uint8_t *image)
 static bool drive(void *driver, size_t address, uint8_t octet)
 {
     uint32_t before = number_after_load(driver);
-    uint32_t raise = address < XISTALVO_AT_BODY(1, 0) + XISTALVO_IN_MARK ? 0 : 64;
+    size_t mark = xistalvo_place_of_mark(driver, 0);
+    uint32_t raise = mark <= address && address < mark + 4 ? 64 : 0;
     step();
     *((volatile uint8_t *)driver + address) = octet;
     if (number_after_load(driver) != before + raise) {
@@ -138,7 +143,7 @@ static bool drive(void *driver, size_t address, uint8_t octet)
 
 static void start(struct link *link, unsigned end, struct kept *kept)
 {
-    bool is_started = link->way == IN_FILE ? kept_start_from_file(kept, paths[end]) : kept_start(kept, link->memory[end], LENGTH);
+    bool is_started = link->way == IN_FILE ? kept_start_from_file(kept, paths[end]) : kept_start(kept, link->memory[end], link->length);
     if (!is_started) {
         both_fail("an image does not load after a kill");
     }
@@ -171,7 +176,7 @@ static void tell(int pipe_end, const void *octets, size_t length)
 static void manage(struct link *link, unsigned end, struct kept *kept, const uint8_t *command, size_t length, unsigned answer)
 {
     uint8_t none[1];
-    uint64_t result = xistalvo_command(lent(link, end, kept), LENGTH, kept->numbers, XISTALVO_NUMBERS, command, length, none, 0);
+    uint64_t result = xistalvo_command(lent(link, end, kept), link->length, kept->numbers, XISTALVO_NUMBERS, command, length, none, 0);
     if (XISTALVO_ANSWER(result) != answer) {
         both_fail("a command is answered otherwise than the state that was kept says");
     }
@@ -196,20 +201,103 @@ static void set_window(struct link *link, unsigned end, struct kept *kept)
     manage(link, end, kept, command, xistalvo_make_set_window(SPI, window, command, sizeof command), XISTALVO_DONE);
 }
 
-/* What a process that was killed may have left: an association that is stopped, with any window. */
+static uint8_t field_of(struct link *link, unsigned end, struct kept *kept, size_t field)
+{
+    const uint8_t *image = lent(link, end, kept);
+    return image[xistalvo_place_of_body(image, 0) + field];
+}
+
+static uint16_t id_named(struct link *link, unsigned end, struct kept *kept)
+{
+    return (uint16_t)(field_of(link, end, kept, XISTALVO_IN_KEY_ID_3) << 8 | field_of(link, end, kept, XISTALVO_IN_KEY_ID_3 + 1));
+}
+
+/* The ID of key j. Neighbours differ in both octets. */
+static uint16_t id_of(size_t j) { return (uint16_t)(0x0101 * j + 7); }
+
+static uint8_t state_of(struct link *link, unsigned end, struct kept *kept, size_t j)
+{
+    return lent(link, end, kept)[XISTALVO_AT_KEY_3(1, j) + XISTALVO_IN_KEY_STATE];
+}
+
+/* Any key in this state, but for that of one ID, or NO_KEY. */
+static size_t any_key(struct link *link, unsigned end, struct kept *kept, uint8_t state, uint16_t but)
+{
+    size_t first = random_below(&watch.random, KEYS);
+    for (size_t i = 0; i < KEYS; i++) {
+        size_t j = (first + i) % KEYS;
+        if (state_of(link, end, kept, j) == state && id_of(j) != but) {
+            return j;
+        }
+    }
+    return NO_KEY;
+}
+
+static void manage_key(struct link *link, unsigned end, struct kept *kept, uint8_t tag, uint16_t id, unsigned answer)
+{
+    uint8_t command[32];
+    manage(link, end, kept, command, xistalvo_make_key_alone(tag, id, command, sizeof command), answer);
+}
+
+/* To a key that is active. All have the same octets, so that the ends need not change together. */
+static void rekey_association(struct link *link, unsigned end, struct kept *kept, size_t j)
+{
+    uint8_t command[32];
+    manage(link, end, kept, command, xistalvo_make_rekey_to(SPI, id_of(j), command, sizeof command), XISTALVO_DONE);
+}
+
+static void expire(struct link *link, unsigned end, struct kept *kept)
+{
+    uint8_t command[32];
+    manage(link, end, kept, command, xistalvo_make_spi_alone(XISTALVO_TAG_EXPIRE, SPI, command, sizeof command), XISTALVO_DONE);
+}
+
+/* What a process that was killed may have left: an association that is stopped, with any window, with a key that is given up, or unkeyed, with any
+ * key ID. */
 static void reopen(struct link *link, unsigned end, struct kept *kept)
 {
-    if (lent(link, end, kept)[XISTALVO_AT_BODY(1, 0) + XISTALVO_IN_STATE] != XISTALVO_OPERATIONAL) {
-        set_window(link, end, kept);
-        start_association(link, end, kept);
+    uint8_t state = field_of(link, end, kept, XISTALVO_IN_STATE);
+    if (state == XISTALVO_OPERATIONAL) {
+        return;
+    }
+    if (link->has_keys) {
+        if (state == XISTALVO_KEYED) {
+            expire(link, end, kept);
+        }
+        rekey_association(link, end, kept, any_key(link, end, kept, XISTALVO_KEY_ACTIVE, 0));
+    }
+    set_window(link, end, kept);
+    start_association(link, end, kept);
+}
+
+/* A new key is activated, the association goes over to it or to another, and the one that it used is given up, which it cannot be before. */
+static void change_key(struct link *link, unsigned end, struct kept *kept, uint16_t old)
+{
+    size_t next = any_key(link, end, kept, XISTALVO_KEY_PRE_ACTIVE, old);
+    if (next != NO_KEY) {
+        manage_key(link, end, kept, XISTALVO_TAG_ACTIVATION, id_of(next), XISTALVO_DONE);
+    }
+    if (next == NO_KEY || random_percent(&watch.random, 30)) {
+        next = any_key(link, end, kept, XISTALVO_KEY_ACTIVE, 0);
+    }
+    expire(link, end, kept);
+    rekey_association(link, end, kept, next);
+    if (id_named(link, end, kept) != old && random_percent(&watch.random, 50)) {
+        manage_key(link, end, kept, XISTALVO_TAG_DEACTIVATION, old, XISTALVO_DONE);
     }
 }
 
-/* Stops the association and starts it again with another window; now and then the sender's number is set. */
+/* Stops the association and starts it again with another window, and perhaps another key; now and then the sender's number is set. */
 static void manage_association(struct link *link, unsigned end, struct kept *kept)
 {
     uint8_t command[32];
+    if (link->has_keys) {
+        manage_key(link, end, kept, XISTALVO_TAG_DEACTIVATION, id_named(link, end, kept), XISTALVO_WRONG_KEY_STATE);
+    }
     manage(link, end, kept, command, xistalvo_make_spi_alone(XISTALVO_TAG_STOP, SPI, command, sizeof command), XISTALVO_DONE);
+    if (link->has_keys) {
+        change_key(link, end, kept, id_named(link, end, kept));
+    }
     set_window(link, end, kept);
     if (end == 0 && random_percent(&watch.random, 30)) {
         uint32_t number = kept->numbers[0] + random_between(&watch.random, 1, 200);
@@ -230,7 +318,7 @@ static void send_frames(struct link *link, int pipe_end)
             manage_association(link, 0, &kept);
         }
         random_octets(&watch.random, clear + 5, DATA_LENGTH);
-        uint64_t result = xistalvo_secure(lent(link, 0, &kept), LENGTH, kept.numbers, XISTALVO_NUMBERS, XISTALVO_TC,
+        uint64_t result = xistalvo_secure(lent(link, 0, &kept), link->length, kept.numbers, XISTALVO_NUMBERS, XISTALVO_TC,
                                           XISTALVO_NO_CHECK_FIELD, SPI, clear, sizeof clear, output, sizeof output);
         if (XISTALVO_ANSWER(result) == XISTALVO_DONE && keep(link, 0, &kept)) {
             tell(pipe_end, output, sizeof output);
@@ -254,7 +342,7 @@ static void check_frames(struct link *link, int pipe_end)
             manage_association(link, 1, &kept);
         }
         memcpy(&released, &link->sent[i], sizeof released);
-        uint64_t result = xistalvo_check(lent(link, 1, &kept), LENGTH, kept.numbers, XISTALVO_NUMBERS, XISTALVO_TC,
+        uint64_t result = xistalvo_check(lent(link, 1, &kept), link->length, kept.numbers, XISTALVO_NUMBERS, XISTALVO_TC,
                                          XISTALVO_NO_CHECK_FIELD, link->sent[i].octets, FRAME_LENGTH, released.octets + 11, DATA_LENGTH);
         if (XISTALVO_ANSWER(result) == XISTALVO_DONE && keep(link, 1, &kept)) {
             tell(pipe_end, &released, sizeof released);
@@ -294,11 +382,14 @@ static void note_released(struct link *link, const struct frame *frame)
 
 /* ---- runs ---- */
 
-static uint8_t state_kept(struct link *link, unsigned end)
+/* Counts what the end was left with: an association at rest, a key ID other than the first. */
+static void note_left(struct link *link, unsigned end)
 {
     static struct kept kept;
     start(link, end, &kept);
-    return kept.image[XISTALVO_AT_BODY(1, 0) + XISTALVO_IN_STATE];
+    const uint8_t *body = kept.image + xistalvo_place_of_body(kept.image, 0);
+    totals.stopped += body[XISTALVO_IN_STATE] != XISTALVO_OPERATIONAL;
+    totals.rekeyed += link->has_keys && (body[XISTALVO_IN_KEY_ID_3] << 8 | body[XISTALVO_IN_KEY_ID_3 + 1]) != id_of(0);
 }
 
 static void run_end(struct link *link, unsigned end, struct random *random)
@@ -334,21 +425,37 @@ static void run_end(struct link *link, unsigned end, struct random *random)
         both_fail("an end of the link failed by itself");
     }
     totals.kills += WIFSIGNALED(status) != 0;
-    totals.stopped += state_kept(link, end) != XISTALVO_OPERATIONAL;
+    note_left(link, end);
 }
 
-/* A new link. Its marks are a little below a multiple of 256, where a raise changes another octet than the last. */
+/* Some keys are active, and the others wait. */
+static void make_keys(struct xistalvo_key keys[KEYS])
+{
+    for (size_t j = 0; j < KEYS; j++) {
+        keys[j].id = id_of(j);
+        keys[j].state = (uint8_t)(j % 4 == 0 ? XISTALVO_KEY_ACTIVE : XISTALVO_KEY_PRE_ACTIVE);
+        memset(keys[j].octets, 0x33, sizeof keys[j].octets);
+    }
+}
+
+/* A new link, of version 1 or 3. Its marks are a little below a multiple of 256, where a raise changes another octet than the last. */
 static void make_link(struct link *link, struct random *random)
 {
     uint32_t mark = 256 * random_between(random, 1, 1000) - random_between(random, 1, 4);
+    struct xistalvo_key keys[KEYS];
+    const uint16_t key_id = id_of(0);
+    link->has_keys = random_percent(random, 60);
+    link->length = length_of_link = link->has_keys ? MOST_LENGTH : XISTALVO_IMAGE_LENGTH(1);
     link->sent_count = 0;
     link->last_sent = 0;
     link->last_released = 0;
+    make_keys(keys);
     for (unsigned end = 0; end < 2; end++) {
         struct xistalvo_association association = {SPI, XISTALVO_AUTHENTICATION, XISTALVO_TC, (uint8_t)(end + 1), XISTALVO_OPERATIONAL,
                                                    27, 5, 0, 1024, {0}, {1, 2, 3}, mark};
-        if (xistalvo_make_image(XISTALVO_IMAGE_VERSION, &association, 1, link->memory[end], LENGTH) != LENGTH
-            || !write_new_file(paths[end], link->memory[end], LENGTH)) {
+        size_t made = link->has_keys ? xistalvo_make_image_3(&association, &key_id, 1, keys, KEYS, link->memory[end], MOST_LENGTH)
+                                     : xistalvo_make_image(XISTALVO_IMAGE_VERSION, &association, 1, link->memory[end], MOST_LENGTH);
+        if (made != link->length || !write_new_file(paths[end], link->memory[end], made)) {
             both_fail("an image cannot be made");
         }
     }
@@ -356,7 +463,7 @@ static void make_link(struct link *link, struct random *random)
 
 static void *shared_memory(void)
 {
-    void *memory = mmap(NULL, LENGTH, PROT_READ | PROT_WRITE, MAP_SHARED | MAP_ANONYMOUS, -1, 0);
+    void *memory = mmap(NULL, MOST_LENGTH, PROT_READ | PROT_WRITE, MAP_SHARED | MAP_ANONYMOUS, -1, 0);
     if (memory == MAP_FAILED) {
         both_fail("no shared memory");
     }
@@ -373,7 +480,7 @@ static void try_way(enum way way, struct options options)
     link.way = way;
     link.memory[0] = shared_memory();
     link.memory[1] = shared_memory();
-    totals = (struct totals){0, 0, 0, 0};
+    totals = (struct totals){0, 0, 0, 0, 0};
     for (uint64_t i = 0; i < options.count; i++) {
         struct random random = random_stream(options.seed, options.from + i);
         both_at(options.seed, options.from + i, (uint64_t)way);
@@ -388,12 +495,12 @@ static void try_way(enum way way, struct options options)
     unlink("receiver");
     unlink("receiver.new");
     rmdir(folder);
-    if (totals.releases == 0 || totals.kills == 0 || (totals.stopped == 0 && options.count >= 200)) {
-        both_fail("nothing was released, nothing killed, or no association left stopped");
+    if (totals.releases == 0 || totals.kills == 0 || ((totals.stopped == 0 || totals.rekeyed == 0) && options.count >= 200)) {
+        both_fail("nothing was released, nothing killed, or no association left stopped or with another key");
     }
     printf("%s: %" PRIu64 " kills in %" PRIu64 " runs, %" PRIu64 " frames sent, %" PRIu64 " released; %" PRIu64
-           " times an association was left stopped\n",
-           way_names[way], totals.kills, 2 * options.count, totals.frames, totals.releases, totals.stopped);
+           " times an association was left stopped, %" PRIu64 " times with another key\n",
+           way_names[way], totals.kills, 2 * options.count, totals.frames, totals.releases, totals.stopped, totals.rekeyed);
 }
 
 int main(int argument_count, char **arguments)

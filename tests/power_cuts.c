@@ -1,13 +1,15 @@
 /* Random runs of loads, sendings, checks and management commands at both ends of a link, with power failing after any stored octet, and demand 3
- * of document 01, as request 5 of document 02 has it, held to what really went out and was really released, association by association, over
+ * of document 01, as requests 5 and 9 of document 02 have it, held to what really went out and was really released, association by association, over
  * all channels of one together:
  *
  *   no number goes out twice, and none is released twice;
  *   numbers only rise, through stop, expire, rekey, start, windows and set number;
- *   a sent number exceeds the one before by at most 1 plus 64 for each load between them, where no set number, whole or cut, came between.
+ *   a sent number exceeds the one before by at most 1 plus 64 for each load between them, where no set number, whole or cut, came between;
  *
- * And of demand 2: what one end secures the other releases where its number is in the window, and refuses by 8 where it is not; and by 4 where the
- * association is not operational there.
+ * and over all associations together, of service 2: no IV goes out twice under the same key octets, however often associations are rekeyed.
+ *
+ * And of demand 2: what one end secures the other releases where its number is in the window, and refuses by 8 where it is not, or where the
+ * ends make the IV otherwise; by 7 where the ends hold other keys; and by 4 where the association is not operational there.
  *
  *   power_cuts [--seed S] [--count N] [--from W]
  *
@@ -26,7 +28,7 @@
 #include <stdio.h>
 #include <string.h>
 
-enum { STEPS_PER_RUN = 400, ENOUGH_FOR_EVERY_COMMAND = 20000, MOST_ASSOCIATIONS = 4, FRAMES_KEPT = 200, SMALL_FRAME = 128 };
+enum { STEPS_PER_RUN = 400, ENOUGH_FOR_EVERY_COMMAND = 20000, ENOUGH_FOR_KEYS = 100000, MOST_ASSOCIATIONS = 4, FRAMES_KEPT = 200, SMALL_FRAME = 128 };
 
 /* A frame on the way, as the sending end handed it out. */
 struct sent_frame {
@@ -35,6 +37,14 @@ struct sent_frame {
     uint32_t number;
     uint8_t data[SMALL_FRAME];
     size_t data_length;
+    struct association under; /* as it was at the sending end */
+};
+
+/* What no two frames of service 2 may share. */
+struct used_iv {
+    uint8_t key[KEY_LENGTH];
+    uint8_t iv[SEQUENCE_LENGTH];
+    size_t entry;
 };
 
 /* What went out and what was released under one association. Each association has one sending end. */
@@ -56,12 +66,18 @@ struct run {
     struct world world;
     size_t count;
     struct history histories[MOST_ASSOCIATIONS];
+    size_t iv_count;
+    struct used_iv ivs[STEPS_PER_RUN];
     struct input input;   /* the call that is prepared */
     bool is_tampered;     /* its frame is not as it was sent */
     uint64_t steps, loads, sent, changes /* of the channel under one association */, released, refused, cut_sendings, cut_checks, cuts_tried;
     uint64_t commands[TAG_COUNT], cut_commands[TAG_COUNT]; /* done, and cut */
     uint64_t lifted;                                       /* sendings after a set number */
     uint64_t odd_windows;                                  /* windows outside 1 to 1,024 that a cut left */
+    uint64_t shared;                                       /* frames of service 2 under a key under which another association had sent */
+    uint64_t changed_keys;                                 /* frames sent under another key than the association's frame before */
+    uint64_t half_ids;                                     /* key IDs of which a cut left one octet new and one old */
+    uint64_t other_keys, other_ivs;                        /* frames refused because the ends held other keys, or make the IV otherwise */
 };
 
 static void association_of(const struct run *run, size_t side, size_t entry, struct association *association)
@@ -111,6 +127,25 @@ static void note_sent(struct run *run, struct history *history, uint32_t number,
     run->lifted += history->has_sent && history->is_lifted;
     history->is_lifted = false;
     run->sent++;
+}
+
+/* 'no IV goes out twice under one key', whichever associations send. */
+static void note_iv(struct run *run, const struct association *association, size_t entry, const uint8_t iv[SEQUENCE_LENGTH])
+{
+    bool is_shared = false;
+    for (size_t i = 0; i < run->iv_count; i++) {
+        const struct used_iv *used = &run->ivs[i];
+        bool is_same_key = memcmp(used->key, association->key, KEY_LENGTH) == 0;
+        if (is_same_key && memcmp(used->iv, iv, SEQUENCE_LENGTH) == 0) {
+            both_fail("demand 3: an IV went out twice under one key");
+        }
+        is_shared = is_shared || (is_same_key && used->entry != entry);
+    }
+    struct used_iv *used = &run->ivs[run->iv_count++];
+    memcpy(used->key, association->key, KEY_LENGTH);
+    memcpy(used->iv, iv, SEQUENCE_LENGTH);
+    used->entry = entry;
+    run->shared += is_shared;
 }
 
 static void note_released(struct run *run, struct history *history, uint32_t number)
@@ -169,6 +204,9 @@ static void keep_frame(struct run *run, struct history *history, const struct as
     kept->length = length;
     memcpy(kept->frame, run->input.output, length);
     kept->number = number_in(kept->frame, length, association);
+    const struct sent_frame *before = history->frame_count < 2 ? kept : &history->frames[(history->frame_count - 2) % FRAMES_KEPT];
+    run->changed_keys += before != kept && memcmp(before->under.key, association->key, KEY_LENGTH) != 0;
+    kept->under = *association;
     kept->data_length = run->input.frame_length - header.length - header.trailer;
     memcpy(kept->data, run->input.frame + header.length, kept->data_length);
 }
@@ -189,6 +227,9 @@ static void send(struct run *run, size_t side, size_t entry)
     end_of_input(&run->world.ends[side], &run->input);
     note_sent(run, &run->histories[entry], number_in(run->input.output, outcome.length, &association),
               header_in(run->input.output, outcome.length, &association).channel);
+    if (association.service == 2) {
+        note_iv(run, &association, entry, run->input.output + header_in(run->input.output, outcome.length, &association).length + 2);
+    }
     keep_frame(run, &run->histories[entry], &association, outcome.length);
 }
 
@@ -214,6 +255,24 @@ static const struct sent_frame *prepare_check(struct run *run, size_t side, size
     return frame;
 }
 
+/* What a frame as it was sent is answered by. */
+static unsigned answer_due(struct run *run, const struct sent_frame *frame, const struct association *association, uint32_t last)
+{
+    bool is_in_window = last < frame->number && frame->number - last <= association->window;
+    if (association->state != 2 || !serves_channel(association, header_in(frame->frame, frame->length, association).channel)) {
+        return 4;
+    }
+    if (memcmp(frame->under.key, association->key, KEY_LENGTH) != 0) {
+        run->other_keys++;
+        return 7;
+    }
+    if (!make_iv_alike(&frame->under, association)) {
+        run->other_ivs++;
+        return 8;
+    }
+    return is_in_window ? 0 : 8;
+}
+
 static void check(struct run *run, size_t side, size_t entry)
 {
     struct association association;
@@ -222,11 +281,10 @@ static void check(struct run *run, size_t side, size_t entry)
     }
     const struct sent_frame *frame = prepare_check(run, side, entry, &association);
     uint32_t last = run->input.numbers[entry];
-    bool is_in_window = last < frame->number && frame->number - last <= association.window;
     struct outcome outcome = both_run(&run->random, &run->input);
-    bool is_served = association.state == 2 && serves_channel(&association, header_in(frame->frame, frame->length, &association).channel);
-    if (!run->is_tampered && outcome.answer != (!is_served ? 4 : is_in_window ? 0 : 8)) {
-        both_fail("demand 2: a frame as it was sent was not released in the window, or not refused by 8 outside it or by 4 for its channel");
+    if (!run->is_tampered && outcome.answer != answer_due(run, frame, &association, last)) {
+        both_fail("demand 2: a frame as it was sent was not released in the window, or not refused by 8 outside it or for its IV, by 7 for its key "
+                  "or by 4 for its channel");
     }
     if (outcome.answer != 0) {
         run->refused++;
@@ -242,17 +300,64 @@ static void check(struct run *run, size_t side, size_t entry)
 
 /* ---- commands ---- */
 
+/* The key to rekey to: in version 3 one that is active, by turns any and one that has the octets which the other end uses, if there is one. */
+static unsigned key_to_use(struct run *run, size_t side, size_t entry)
+{
+    struct association other;
+    struct table table;
+    unsigned id = 0;
+    association_of(run, 1 - side, entry, &other);
+    table_of(&run->world.ends[side], &table);
+    if (table.key_count != 0 && random_percent(&run->random, 50)) {
+        size_t any = random_below(&run->random, (uint32_t)table.key_count);
+        if (table.keys[any].state == ACTIVE) {
+            return table.keys[any].id;
+        }
+    }
+    for (size_t i = 0; i < table.key_count; i++) {
+        if (table.keys[i].state == ACTIVE) {
+            id = table.keys[i].id;
+        }
+        if (table.keys[i].state == ACTIVE && memcmp(table.keys[i].octets, other.key, KEY_LENGTH) == 0) {
+            break;
+        }
+    }
+    return id;
+}
+
+/* Whether the association may start, as far as its key goes. */
+static bool has_active_key(const struct run *run, size_t side, const struct association *association)
+{
+    struct table table;
+    table_of(&run->world.ends[side], &table);
+    size_t named = find_key(&table, association->key_id);
+    return !association->names_key || (named < table.key_count && table.keys[named].state == ACTIVE);
+}
+
 /* The command that brings an association nearer to serving. */
-static void prepare_way_back(struct run *run, const struct association *association)
+static void prepare_way_back(struct run *run, size_t side, size_t entry, const struct association *association)
 {
     struct input *input = &run->input;
     bool is_allowed = 1 <= association->window && association->window <= 1024;
     if (association->state == 0) {
-        put_rekey(input, association->spi);
+        put_rekey(input, association->spi, key_to_use(run, side, entry));
+    } else if (!has_active_key(run, side, association)) {
+        put_spi_alone(input, random_percent(&run->random, 50) ? TAG_ACTIVATION : TAG_EXPIRE,
+                      random_percent(&run->random, 50) ? association->key_id : association->spi);
     } else if (!is_allowed) {
         put_set_window(input, association->spi, random_between(&run->random, 64, 1024));
     } else {
         put_start(input, association->spi, name_of_channel(association, any_channel(&run->random, association)));
+    }
+}
+
+/* The key that a command is to be about: any, where there are keys. */
+static void any_key_named(struct run *run, size_t side, struct association *association)
+{
+    struct table table;
+    table_of(&run->world.ends[side], &table);
+    if (table.key_count != 0) {
+        association->key_id = table.keys[random_below(&run->random, (uint32_t)table.key_count)].id;
     }
 }
 
@@ -263,11 +368,14 @@ static void prepare_command(struct run *run, size_t side, size_t entry, struct a
     association_of(run, side, entry, association);
     input_of_end(input, CALL_COMMAND, &run->world.ends[side]);
     uint32_t chance = random_below(&run->random, 100);
-    if (association->state != 2 && chance < 45) {
-        prepare_way_back(run, association);
-    } else if (association->state != 2 && chance < 75) {
-        make_command(&run->random, input, chance < 55 ? TAG_EXPIRE : TAG_SET_WINDOW, association, input->numbers[entry]);
+    if (association->state != 2 && chance < (association->state == 0 ? 65 : 45)) {
+        prepare_way_back(run, side, entry, association);
+    } else if (association->state != 2 && chance < 88) {
+        make_command(&run->random, input, chance < 60 ? TAG_EXPIRE : TAG_SET_WINDOW, association, input->numbers[entry]);
+    } else if (association->state == 2 && chance < 6) {
+        make_command(&run->random, input, TAG_STOP, association, input->numbers[entry]);
     } else {
+        any_key_named(run, side, association);
         make_command(&run->random, input, every_tag[random_below(&run->random, TAG_COUNT)], association, input->numbers[entry]);
     }
     input->output_length = SMALL_FRAME;
@@ -280,7 +388,7 @@ static size_t entry_named(const struct run *run, size_t side)
     size_t entry = 0;
     for (; entry < run->count; entry++) {
         association_of(run, side, entry, &association);
-        if (run->input.frame_length >= 5 && run->input.frame[3] * 256u + run->input.frame[4] == association.spi) {
+        if (run->input.frame_length >= 5 && names_spi(run->input.frame[0]) && run->input.frame[3] * 256u + run->input.frame[4] == association.spi) {
             break;
         }
     }
@@ -319,7 +427,8 @@ static void judge_command(const struct end *before, const struct end *after, siz
     }
     switch (tag) {
     case TAG_START: changed->state = 2; break;
-    case TAG_STOP: case TAG_REKEY: changed->state = 1; break;
+    case TAG_STOP: changed->state = 1; break;
+    case TAG_REKEY: changed->state = 1, changed->key_id = input->frame[5] * 256u + input->frame[6]; break;
     case TAG_EXPIRE: changed->state = 0; break;
     case TAG_SET_WINDOW: changed->window = input->frame[5] * 256u + input->frame[6]; break;
     case TAG_SET_NUMBER: changed->mark = last_after / 64; break;
@@ -330,6 +439,35 @@ static void judge_command(const struct end *before, const struct end *after, siz
     }
     if (tag == TAG_SET_NUMBER ? last_after <= last || last_after - last > 1024 : last_after != last) {
         both_fail("a command moved a number that it must not move, or otherwise than up by 1 to 1,024");
+    }
+}
+
+/* The same of a command about keys: one state, and what an inventory lists. */
+static void judge_key_command(const struct end *before, const struct end *after, const struct input *input)
+{
+    struct table table;
+    uint8_t expected[LARGEST_IMAGE];
+    size_t listed = 0;
+    table_of(before, &table);
+    for (size_t i = 0; i < table.key_count; i++) {
+        unsigned first = input->frame[3] * 256u + input->frame[4], last = input->frame[5] * 256u + input->frame[6];
+        struct key *key = &table.keys[i];
+        const uint8_t *place = input->output + 5 + 3 * listed;
+        if (input->frame[0] == TAG_INVENTORY && first <= key->id && key->id <= last) {
+            if (place[0] * 256u + place[1] != key->id || place[2] != key->state) {
+                both_fail("an inventory does not tell of a key what the image holds");
+            }
+            listed++;
+        } else if (input->frame[0] != TAG_INVENTORY && key->id == first) {
+            key->state = input->frame[0] == TAG_ACTIVATION ? ACTIVE : DEACTIVATED;
+        }
+    }
+    if (input->frame[0] == TAG_INVENTORY && input->output[4] != listed) {
+        both_fail("an inventory counts other keys than it lists");
+    }
+    if (write_image(&table, expected) != after->image_length || memcmp(after->image, expected, after->image_length) != 0
+        || memcmp(before->numbers, after->numbers, sizeof after->numbers) != 0) {
+        both_fail("a done command about keys left image or numbers otherwise than it says");
     }
 }
 
@@ -349,6 +487,8 @@ static void command(struct run *run, size_t side, size_t for_entry)
     if (entry < run->count) {
         judge_command(&before, &run->world.ends[side], entry, &run->input);
         note_command(run, side, entry, run->input.frame[0]);
+    } else if (run->input.frame[0] != TAG_PING) {
+        judge_key_command(&before, &run->world.ends[side], &run->input);
     }
 }
 
@@ -457,15 +597,20 @@ static void cut_check(struct run *run, size_t side, size_t entry)
 
 static void cut_command(struct run *run, size_t side, size_t for_entry)
 {
-    struct association association;
+    struct association association, before;
     prepare_command(run, side, for_entry, &association);
     size_t entry = entry_named(run, side);
-    unsigned tag = run->input.frame[0];
-    if (entry < run->count && cut_call(run, side, entry)) {
+    unsigned tag = run->input.frame[0], id = run->input.frame[5] * 256u + run->input.frame[6];
+    if (entry == run->count && names_spi(tag)) {
+        return;
+    }
+    association_of(run, side, entry % run->count, &before);
+    if (cut_call(run, side, entry % run->count)) {
         run->cut_commands[index_of_tag(tag)]++;
-        note_command(run, side, entry, tag);
-        association_of(run, side, entry, &association);
+        note_command(run, side, entry % run->count, tag);
+        association_of(run, side, entry % run->count, &association);
         run->odd_windows += tag == TAG_SET_WINDOW && (association.window < 1 || association.window > 1024);
+        run->half_ids += tag == TAG_REKEY && association.key_id != id && association.key_id != before.key_id;
     }
 }
 
@@ -474,14 +619,24 @@ static void cut_command(struct run *run, size_t side, size_t for_entry)
 /* All associations operational; the receiving end starts near the sending one, or far below it where the run is to show refusals. */
 static void start_run(struct run *run, uint64_t number)
 {
-    struct table table;
+    struct table table, other;
+    uint8_t keys[MOST_ASSOCIATIONS][KEY_LENGTH];
     run->random = random_stream(run->options.seed, number);
     run->count = random_between(&run->random, 1, MOST_ASSOCIATIONS);
     make_world(&run->random, &run->world, run->count);
+    table_of(&run->world.ends[0], &table);
+    table_of(&run->world.ends[1], &other);
+    for (size_t i = 0; i < run->count; i++) { /* a body that names no key, or another, takes one that both ends have */
+        const uint8_t *own = table.version < 3 ? table.entries[i].key : other.version < 3 ? other.entries[i].key : table.keys[0].octets;
+        bool is_named = table.version == 3 && other.version == 3 && find_key(&table, table.entries[i].key_id) < table.key_count;
+        memcpy(keys[i], is_named ? table.entries[i].key : own, KEY_LENGTH);
+    }
     for (size_t side = 0; side < 2; side++) {
         table_of(&run->world.ends[side], &table);
         for (size_t i = 0; i < run->count; i++) {
-            table.entries[i].state = 2; /* so that most of a run is spent on frames */
+            if (!bring_to_service(&run->random, &table, i, keys[i])) { /* so that most of a run is spent on frames */
+                both_fail("an end of the test lacks a key of the other");
+            }
             table.entries[i].window = random_percent(&run->random, 80) ? random_between(&run->random, 64, 1024) : 1;
         }
         set_table(&run->world.ends[side], &table);
@@ -490,6 +645,7 @@ static void start_run(struct run *run, uint64_t number)
         set_number(&run->world.ends[1], i, run->world.ends[0].numbers[i]);
     }
     memset(run->histories, 0, sizeof run->histories);
+    run->iv_count = 0;
 }
 
 static void step(struct run *run)
@@ -498,8 +654,8 @@ static void step(struct run *run)
     size_t entry = random_below(&run->random, (uint32_t)run->count);
     association_of(run, 0, entry, &association);
     size_t sender = association.direction == 1 ? 0 : 1;
-    uint32_t chance = random_below(&run->random, 124);
-    if (chance >= 109) {
+    uint32_t chance = random_below(&run->random, 140);
+    if (chance >= 115) {
         command(run, random_below(&run->random, 2), entry);
     } else if (chance >= 100) {
         cut_command(run, random_below(&run->random, 2), entry);
@@ -532,13 +688,20 @@ static void print_commands(const struct run *run)
     for (size_t tag = 0; tag < TAG_COUNT; tag++) {
         printf("%s %s %" PRIu64 " %" PRIu64, tag == 0 ? "" : ",", tag_names[tag], run->commands[tag], run->cut_commands[tag]);
     }
-    printf("; %" PRIu64 " frames sent after a set number, %" PRIu64 " windows outside 1 to 1,024 left by cuts\n", run->lifted, run->odd_windows);
+    printf("; %" PRIu64 " frames sent after a set number, %" PRIu64 " windows outside 1 to 1,024 and %" PRIu64 " halves of key IDs left by cuts\n",
+           run->lifted, run->odd_windows, run->half_ids);
+    printf("frames sent under a key that another association used before: %" PRIu64 ", under another key than the one before: %" PRIu64
+           "; refused for a key that the other end does not use: %" PRIu64 ", for an IV that it makes otherwise: %" PRIu64 "\n",
+           run->shared, run->changed_keys, run->other_keys, run->other_ivs);
 }
 
-/* Every command was done, and every one that names an SPI was cut. */
+/* Every command was done, and every one but ping was cut; keys were shared and changed. */
 static bool commands_are_enough(const struct run *run)
 {
     bool is_enough = run->lifted > 0 && run->odd_windows > 0;
+    if (run->options.count >= ENOUGH_FOR_KEYS) {
+        is_enough = is_enough && run->half_ids > 0 && run->shared > 0 && run->changed_keys > 0 && run->other_keys > 0 && run->other_ivs > 0;
+    }
     for (size_t tag = 0; tag < TAG_COUNT; tag++) {
         is_enough = is_enough && run->commands[tag] > 0 && (run->cut_commands[tag] > 0 || every_tag[tag] == TAG_PING);
     }

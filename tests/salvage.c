@@ -226,7 +226,9 @@ static void start(struct run *run)
     struct world world;
     struct table table;
     run->count = random_between(&run->random, 1, ASSOCIATIONS);
-    make_world(&run->random, &world, run->count);
+    do {
+        make_world(&run->random, &world, run->count);
+    } while (world.ends[0].image[0] > 2); /* salvage takes versions 1 and 2 */
     run->end = world.ends[0];
     table_of(&run->end, &table);
     for (size_t i = 0; i < run->count; i++) {

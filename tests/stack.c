@@ -70,6 +70,14 @@ static void call_command_cut(void)
     result = made == 1 ? 0 : UINT64_MAX;
 }
 
+/* Of all keys, which only version 3 has; the reply is the longest there is. */
+static void call_inventory(void)
+{
+    static uint8_t command[XISTALVO_INVENTORY_LENGTH];
+    xistalvo_make_inventory(0, 65535, command, sizeof command);
+    result = xistalvo_command(images[0], image_length, numbers[0], NUMBER_COUNT, command, sizeof command, opened, sizeof opened);
+}
+
 static void (*current_call)(void);
 
 static void run_call(void)
@@ -104,15 +112,20 @@ static size_t taken_over(int pattern, void (*call)(void))
     return (size_t)(frame_of_caller - (uintptr_t)stack) - unused;
 }
 
-/* Two ends with 32 associations of one kind and service, of which the last is used; at the receiving end its mark is 15 lower. */
-static void make_ends(unsigned service)
+/* Two ends with 32 associations of one kind and service, of which the last is used, in version 3 with 64 keys and the last of them; at the
+ * receiving end its mark is 15 lower. */
+static void make_ends(unsigned version, unsigned service)
 {
     for (unsigned end = 0; end < 2; end++) {
-        struct table table = {.version = 1, .count = MOST_ENTRIES};
+        static struct table table;
+        table = (struct table){.version = version, .count = MOST_ENTRIES, .key_count = MOST_KEYS};
         for (unsigned i = 0; i < MOST_ENTRIES; i++) {
             table.entries[i] = (struct association){.spi = i + 1, .service = service, .kind = kind, .direction = end + 1, .state = 2,
-                                                    .spacecraft = 27, .channel = 5, .window = 1024, .key = {(uint8_t)i},
-                                                    .mark = end == 0 ? 15 : 0};
+                                                    .spacecraft = 27, .channel = version == 3 && kind == 3 ? 1 << 5 : 5, .window = 1024,
+                                                    .key_id = 2 * i + 1, .key = {(uint8_t)i}, .mark = end == 0 ? 15 : 0};
+        }
+        for (unsigned i = 0; i < MOST_KEYS; i++) {
+            table.keys[i] = (struct key){.id = i, .state = ACTIVE, .octets = {(uint8_t)i}};
         }
         image_length = write_image(&table, images[end]);
         if (XISTALVO_ANSWER(xistalvo_load(images[end], image_length, numbers[end], NUMBER_COUNT)) != 0) {
@@ -140,15 +153,16 @@ static void make_frame(unsigned service)
 
 static size_t larger(size_t a, size_t b) { return a > b ? a : b; }
 
-/* The most that a call takes with a frame of any kind. */
+/* The most that a call takes with a frame of any kind and an image of version 1 or 3. */
 static size_t taken_by(void (*call)(void), unsigned service)
 {
     static const int patterns[] = {0x5A, 0xA5};
     size_t most = 0;
-    for (kind = 1; kind <= 4; kind++) {
+    for (unsigned round = 0; round < 8; round++) {
+        kind = (uint8_t)(1 + round / 2);
         check_field = kind != 4;
         for (size_t i = 0; i < sizeof patterns / sizeof patterns[0]; i++) {
-            make_ends(service);
+            make_ends(round % 2 == 0 ? 1 : 3, service);
             make_frame(service);
             if (call == call_check || call == call_ground_check) {
                 call_secure();
@@ -170,6 +184,7 @@ int main(void)
                  {"secure", call_secure, XISTALVO_STACK},
                  {"check", call_check, XISTALVO_STACK},
                  {"command", call_command, XISTALVO_STACK},
+                 {"inventory", call_inventory, XISTALVO_STACK},
                  {"raise", call_raise, XISTALVO_STACK},
                  {"command_cut", call_command_cut, XISTALVO_STACK},
                  {"ground_secure", call_ground_secure, XISTALVO_GROUND_STACK},

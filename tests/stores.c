@@ -225,6 +225,7 @@ struct totals {
     uint64_t calls, done, refused, stores, states;
     uint64_t commands[TAG_COUNT]; /* done */
     uint64_t halves;              /* set window, seen with its first octet stored and its second not yet */
+    uint64_t thirds;              /* rekey in version 3, seen after each of its three stores */
 };
 
 static void judge(const struct input *before, const struct effect *effect, struct totals *totals)
@@ -246,6 +247,7 @@ static void judge(const struct input *before, const struct effect *effect, struc
     if (before->which == CALL_COMMAND && effect->answer == 0) {
         totals->commands[index_of_tag(before->frame[0])]++;
         totals->halves += before->frame[0] == TAG_SET_WINDOW && seen.state_count == 3;
+        totals->thirds += before->frame[0] == TAG_REKEY && seen.state_count == 4;
     }
 }
 
@@ -280,7 +282,7 @@ static void make_input(struct random *random, const struct end *end, struct inpu
     input->frame_length = make_clear_frame(random, association, has_field, random_between(random, 1, DATA_MOST), input->frame);
     if (input->which == CALL_CHECK && read_clear_frame(association->kind, has_field, input->frame, input->frame_length, &header)) {
         memcpy(clear, input->frame, input->frame_length);
-        sequence_of_number((uint64_t)end->numbers[entry] + random_between(random, 1, association->window + 1), sequence);
+        iv_of_number(association, (uint64_t)end->numbers[entry] + random_between(random, 1, association->window + 1), sequence);
         input->frame_length = protect_frame(association, &header, sequence, clear, input->frame_length, input->frame);
     }
     if (random_percent(random, 20)) {
@@ -294,7 +296,7 @@ static void make_command_input(struct random *random, struct end *end, struct in
 {
     struct table table;
     struct association association;
-    unsigned tag = every_tag[random_below(random, TAG_COUNT)];
+    unsigned tag = random_percent(random, 12) ? TAG_REKEY : every_tag[random_below(random, TAG_COUNT)];
     table_of(end, &table);
     size_t entry = random_below(random, (uint32_t)table.count);
     suit_command(random, end, entry, tag, &association);
@@ -303,14 +305,14 @@ static void make_command_input(struct random *random, struct end *end, struct in
     if (random_percent(random, 10)) {
         break_command(random, input);
     }
-    input->output_length = random_percent(random, 90) ? 2 * DATA_MOST : random_below(random, 18);
+    input->output_length = random_percent(random, 90) ? 4 * DATA_MOST : random_below(random, 200);
     random_octets(random, input->output, input->output_length);
 }
 
-/* Every command was watched being done, and a window was seen between its two stores. */
+/* Every command was watched being done, a window was seen between its two stores, and a rekey that names a key after each of its three. */
 static bool commands_are_enough(const struct totals *totals)
 {
-    bool is_enough = totals->halves > 0;
+    bool is_enough = totals->halves > 0 && totals->thirds > 0;
     for (size_t tag = 0; tag < TAG_COUNT; tag++) {
         is_enough = is_enough && totals->commands[tag] > 0;
     }
@@ -352,8 +354,9 @@ int main(int argument_count, char **arguments)
         try_one(options, options.from + i, &totals);
     }
     printf("stores: seed %" PRIu64 ", %" PRIu64 " calls, %" PRIu64 " done and %" PRIu64 " refused; %" PRIu64 " stores, %" PRIu64
-           " of them seen singly; every image between two instructions was that of a cut, and no output came before the last store\n",
-           options.seed, totals.calls, totals.done, totals.refused, totals.stores, totals.states);
+           " of them seen singly, those of %" PRIu64 " rekeys among them; every image between two instructions was that of a cut, and no output "
+           "came before the last store\n",
+           options.seed, totals.calls, totals.done, totals.refused, totals.stores, totals.states, totals.thirds);
     if (options.count >= ENOUGH_FOR_EVERY_COMMAND && !commands_are_enough(&totals)) {
         puts("stores: too few commands were watched");
         return 1;

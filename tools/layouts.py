@@ -255,7 +255,7 @@ def secured_rows(p, y, service, ocf):
     secured = [
         ("header", head, NAMES, ["header", h], "0"),
         ("spi", spi, NUMBER, ["SPI", "2 octets"], place(0)),
-        ("number", number, NUMBER, ["number" if service == 1 else "IV: the number", f"{field} octets"], place(2)),
+        ("number", number, NUMBER, ["number" if service == 1 else "IV", f"{field} octets"], place(2)),
         ("data", data, DATA, ["data" if service == 1 else "data, encrypted", "n octets"], place(2 + field)),
         ("mac", mac, MAC, ["MAC", "16 octets"], place(2 + field, True)),
     ]
@@ -294,7 +294,8 @@ def secured(service):
     p.note(p.bottom + 14, "In TM a secondary header is the end of the header: it is copied, and covered as it is, since the mask has 6 octets.")
     p.note(p.bottom + 14, "Widths are not to scale.")
     if service == 2:
-        p.note(p.bottom + 14, "The IV is the number, big-endian in 12 octets. What is sent has 0 in the first 8 of them.")
+        p.note(p.bottom + 14, "Below version 3 of the image the IV is the number, big-endian in 12 octets; what is sent has 0 in the first 8.")
+        p.note(p.bottom + 14, "In version 3 the first 8 are the SPI, in 4 octets, and 4 zero octets.")
     return p
 
 
@@ -330,7 +331,7 @@ def check_field():
 
 
 def image():
-    p = Picture("image", "The image: a table of contents, then the bodies")
+    p = Picture("image", "The image, versions 1 and 2: a table of contents, then the bodies")
     heading(p, p.title, "k entries, 0 to 32. Numbers are big-endian. Widths are not to scale.")
     y = 112
     contents = [
@@ -380,7 +381,7 @@ def image():
 
 
 def body():
-    p = Picture("body", "A body: 52 octets")
+    p = Picture("body", "A body, versions 1 and 2: 52 octets")
     heading(p, p.title, "Octets are counted from the body's first. Below each name: the values allowed.")
     rows = [
         [
@@ -427,6 +428,141 @@ def body():
     return p
 
 
+# ---- version 3: keys in one place
+
+
+def image_keys():
+    p = Picture("image-keys", "The image, version 3: contents, bodies, and keys in one place")
+    heading(p, p.title, "k entries, 0 to 32, and q keys, 0 to 64. Numbers are big-endian. Widths are not to scale.")
+    y = 112
+    contents = [
+        (62, SORT, ["version", "3", "1 octet"], "0"),
+        (58, LENGTH, ["count", "k", "1 octet"], "1"),
+        (74, NUMBER, ["SPI", "entry 0", "2 octets"], "2"),
+        (80, LENGTH, ["position", "of body 0", "2 octets"], "4"),
+        (50, FREE, ["..."], ""),
+        (84, NUMBER, ["SPI", "entry k-1", "2 octets"], "4k-2"),
+        (92, LENGTH, ["position", "of body k-1", "2 octets"], "4k"),
+        (84, FIXED, ["65,535", "not counted", "2 octets"], "2+4k"),
+        (108, LENGTH, ["position", "of the key part", "2 octets"], "4+4k"),
+    ]
+    bodies = [
+        (180, FREE, ["body 0", "22 octets"], "6+4k", 3),
+        (50, FREE, ["..."], "", None),
+        (200, FREE, ["body k-1", "22 octets"], "6+4k+22(k-1)", 6),
+    ]
+    keys = [
+        (70, LENGTH, ["count", "q", "1 octet"], "6+26k", 8),
+        (190, MAC, ["key 0", "35 octets"], "7+26k", None),
+        (50, FREE, ["..."], "", None),
+        (210, MAC, ["key q-1", "35 octets"], "7+26k+35(q-1)", None),
+    ]
+    p.text(LEFT, y - 30, "place of the octet in the image", 12, "start", colour=SOFT)
+    middles = {}
+    rows = [("contents", [(*part, None) for part in contents], "6+4k", y), ("bodies", bodies, "6+26k", y + 150)]
+    rows += [("key part", keys, "7+26k+35q: the end", y + 300)]
+    for label, parts, end, top in rows:
+        x = LEFT
+        p.text(LEFT - 10, top + 37, label, 12.5, "end", "bold")
+        for i, (width, fill, lines, place, source) in enumerate(parts):
+            p.line(x, top - 14, x, top, SOFT)
+            p.text(x + 3, top - 6, place, 12, "start", colour=SOFT)
+            p.box(x, top, width, 64, fill, lines)
+            if top == y:
+                middles[i] = x + width / 2
+            if source == 8:
+                p.arrow([(middles[8], y + 64), (middles[8], top - 36), (x + 54, top - 36), (x + 54, top - 1)])
+            elif source is not None:
+                p.arrow([(middles[source], y + 64), (x + 0.7 * width, top - 1)])
+            x += width
+        p.line(x, top - 14, x, top, SOFT)
+        p.text(x + 3, top - 6, end, 12, "start", colour=SOFT)
+    y += 300
+    p.note(y + 92, "SPIs are 1 to 65,534 and rise strictly; the last entry stands outside the count. Key IDs rise strictly, from 0 on.")
+    p.note(y + 110, "The image has exactly 7 + 26k + 35q octets: 7 with nothing in it, 3,079 with 32 entries and 64 keys.")
+    p.note(y + 128, "An operational body names a key that is there and active. Other bodies may name any ID.")
+    return p
+
+
+def octet_row(p, y, label, fields, tall, at=0):
+    """Fields of so many octets, in one row, with the place of each octet above it."""
+    p.text(LEFT - 10, y + tall / 2 + 4, label, 12.5, "end", "bold")
+    x = LEFT
+    for name, octets, fill, lines, unit in fields:
+        for i in range(octets if unit == UNIT else 1):
+            p.text(x + UNIT * (i + 0.5) if unit == UNIT else x + 12, y - 6, str(at + i), 11.5, colour=SOFT)
+        small = octets == 1
+        p.box(x, y, unit * octets, tall, fill, [name] + lines, sizes=(10.5, 11.5) if small else (13, 12))
+        x += unit * octets
+        at += octets
+    return at
+
+
+def body_keys():
+    p = Picture("body-keys", "A body of version 3, and a key of the key part")
+    heading(p, p.title, "Octets are counted from the first of the body, or of the key. Below each name: the values allowed.")
+    front = [
+        ("service", 1, SORT, ["1, 2"], UNIT),
+        ("kind", 1, SORT, ["1 to 4"], UNIT),
+        ("direc-", 1, SORT, ["*tion", "1, 2"], UNIT),
+        ("state", 1, SORT, ["0 to 2"], UNIT),
+        ("spacecraft", 2, NAMES, ["0 to 1,023;", "AOS to 255"], UNIT),
+        ("virtual", 1, NAMES, ["*channel", "0-63;", "TM: set"], UNIT),
+        ("MAP", 1, NAMES, ["kind 2:", "0-63,", "else 0"], UNIT),
+        ("window", 2, NUMBER, ["1 to 1,024", "in state 2"], UNIT),
+        ("header mask", 6, FREE, ["any; for kind 1 the last octet is 0"], UNIT),
+    ]
+    at = octet_row(p, 96, "body", front, 84)
+    back = [("key ID", 2, NUMBER, ["0 to 65,535"], UNIT), ("mark m, coded", 4, NUMBER, ["m below 2^26, as m xor m/2"], UNIT)]
+    assert octet_row(p, 214, "", back, 54, at) == 22
+    key = [("ID", 2, NUMBER, ["0 to 65,535"], UNIT), ("state", 1, SORT, ["0 to 2"], UNIT), ("AES-256 key", 32, MAC, ["any, 32 octets"], 15)]
+    assert octet_row(p, 318, "key", key, 54) == 35
+    x = LEFT + 6 * UNIT + 24
+    p.text(x, 232, "The module writes the mark, and by commands state, window and key ID.", 12.5, "start")
+    p.text(x, 250, "Of a key it writes the state alone.", 12.5, "start")
+    p.note(400, "Up to octet 15 a body is one of version 2. The key ID names the key of the association; several may name one.")
+    p.note(418, "State of a key: 0 pre-active, 1 active, 2 deactivated. An operational body names an active key; another may name any ID.")
+    legend(p, 446, [(SORT, "which of several"), (NAMES, "names the channel"), (NUMBER, "for the number, or names"), (MAC, "secret")])
+    return p
+
+
+def initialization_vector():
+    p = Picture("iv", "The IV of service 2, by the version of the image")
+    heading(p, p.title, "12 octets, as they stand in the frame behind the SPI. Numbers are big-endian.")
+    zeros, number = (8, FIXED, ["0", "8 octets"]), (4, NUMBER, ["number", "4 octets"])
+    rows = [("1, 2", [zeros, number]), ("3", [(4, NUMBER, ["SPI", "4 octets, the first 2 are 0"]), (4, FIXED, ["0", "4 octets"]), number])]
+    y = 96
+    for version, fields in rows:
+        p.text(LEFT - 10, y + 24, "version", 12.5, "end", "bold")
+        p.text(LEFT - 10, y + 40, version, 12.5, "end", "bold")
+        x, at = LEFT, 0
+        for octets, fill, lines in fields:
+            for i in range(octets):
+                p.text(x + UNIT * (i + 0.5), y - 6, str(at + i), 11.5, colour=SOFT)
+            p.box(x, y, UNIT * octets, 54, fill, lines)
+            x, at = x + UNIT * octets, at + octets
+        y += 94
+    p.note(y - 14, "A check in version 3 answers 8 where the first 8 octets are others, after the MAC was found right (7 where it was not).")
+    p.note(y + 4, "No SPI is 0, so no IV of version 3 is one of versions 1 and 2, and no two associations ever make the same one.")
+    return p
+
+
+def key_states():
+    p = Picture("key-states", "The states of a key in version 3, and the commands that lead from one to the other")
+    p.text(24, 26, p.title, 16, "start", "bold")
+    y, high, wide = 64, 76, 190
+    places = [("pre-active", 24, FREE, "waits"), ("active", 384, DATA, "may be used"), ("deactivated", 744, FREE, "given up")]
+    for state, (name, x, fill, what) in enumerate(places):
+        p.box(x, y, wide, high, fill, [name, f"state {state}", what], sizes=(15, 12.5))
+    for x1, x2, words in ((24 + wide, 384, "activation"), (384 + wide, 744, "deactivation")):
+        p.arrow([(x1, y + 38), (x2 - 1, y + 38)])
+        p.text((x1 + x2) / 2, y + 30, words, 14, weight="bold")
+    p.note(y + high + 26, "There is no way back. From another state a command is answered by 18, and so is a deactivation", 24)
+    p.note(y + high + 44, "while an operational association names the key. Rekey and start need an active key: 17 where there is", 24)
+    p.note(y + high + 62, "none of that ID, 18 where it is in another state.", 24)
+    return p
+
+
 # ---- the result of the C interface
 
 
@@ -437,7 +573,7 @@ def packed_result():
     bit = FULL / 64
     fields = [
         ("0", 63, 48, FIXED, []),
-        ("answer", 47, 40, SORT, ["0 to 16"]),
+        ("answer", 47, 40, SORT, ["0 to 18"]),
         ("stores", 39, 32, NUMBER, ["0 to 16"]),
         ("length", 31, 0, LENGTH, ["octets of the result"]),
     ]
@@ -491,24 +627,30 @@ def command_row(p, y, name, tag, length, fields):
 def commands():
     p = Picture("commands", "Management commands and their replies")
     heading(p, p.title, "Tags are in hex. The length counts the octets of the value, behind it. Numbers are big-endian.")
-    spi = (SPI, NUMBER, ["SPI", "2 octets"], 2)
+    spi, key = (SPI, NUMBER, ["SPI", "2 octets"], 2), (SPI, NUMBER, ["key ID", "2 octets"], 2)
     number = (200, NUMBER, ["number", "12 octets, the first 8 are 0"], 12)
     name = (122, NAMES, ["channel", "4 octets"], 4)
     rows = [
         ("start", "1B", "2 + 4N", [spi, name, (50, FREE, ["..."], "1+4N"), (132, NAMES, ["channel N", "4 octets"], "5+4N")]),
         ("stop", "1E", "2", [spi]),
         ("expire", "19", "2", [spi]),
-        ("rekey", "16", "16", [spi, (96, FIXED, ["key ID: 0", "2 octets"], 2), (200, FIXED, ["number: 0", "12 octets"], 12)]),
+        ("rekey", "16", "16", [spi, (96, NUMBER, ["key ID", "2 octets"], 2), (200, FIXED, ["number: 0", "12 octets"], 12)]),
         ("set window", "15", "4", [spi, (110, NUMBER, ["window", "2 octets"], 2)]),
         ("set number", "1A", "14", [spi, number]),
         ("status", "1F", "2", [spi]),
         ("read number", "10", "2", [spi]),
         ("ping", "31", "0", []),
+        ("activation", "02", "2", [key]),
+        ("deactivation", "03", "2", [key]),
+        ("inventory", "07", "4", [(100, NUMBER, ["first ID", "2 octets"], 2), (100, NUMBER, ["last ID", "2 octets"], 2)]),
     ]
     replies = [
         ("status", "9F", "3", [spi, (84, SORT, ["state", "1 octet"], 1)]),
         ("read number", "90", "14", [spi, number]),
         ("ping", "B1", "0", []),
+        ("inventory", "87", "2 + 3n", [(84, LENGTH, ["count n", "2 octets"], 2), (90, NUMBER, ["key ID", "2 octets"], 2),
+                                       (70, SORT, ["state", "1 octet"], 1), (50, FREE, ["..."], "2+3n"), (104, NUMBER, ["key ID n", "2 octets"], "4+3n"),
+                                       (84, SORT, ["state n", "1 octet"], "5+3n")]),
     ]
     y = 84
     for row in rows:
@@ -519,7 +661,9 @@ def commands():
     for row in replies:
         command_row(p, y, *row)
         y += 74
-    p.note(y - 4, "A start names N channels, one or more. The other commands have no reply.", 24)
+    p.note(y - 4, "A start names N channels, one or more. Rekey has key ID 0 below version 3. An inventory lists n keys, none to 64.", 24)
+    p.note(y + 14, "The other commands have no reply.", 24)
+    y += 18
     meanings = [(SORT, "which of several"), (LENGTH, "says how long"), (NUMBER, "for the number"), (NAMES, "names a channel"), (FIXED, "fixed")]
     legend(p, y + 22, meanings, 24)
     return p
@@ -568,7 +712,9 @@ def states():
         p.text((x1 + x2) / 2, y + 71, back, 14, weight="bold")
     p.bracket(24, 574, y + high + 14, ["set window: where no frame is served"])
     p.bracket(24, 934, y + high + 58, ["set number, status, read number: in every state"])
-    p.note(y + high + 112, "From another state than the one that its arrow leaves, a command is answered by 15. Key and number stay.", 24)
+    p.note(y + high + 112, "From another state than the one that its arrow leaves, a command is answered by 15. The number stays,", 24)
+    p.note(y + high + 130, "and below version 3 the key too. In version 3 rekey names the key that is used from then on,", 24)
+    p.note(y + high + 148, "and rekey and start need it active (17, 18).", 24)
     return p
 
 
@@ -701,9 +847,10 @@ def layers():
         "masking": (372, 5, 130, NAMES, "the header's mask"),
         "marks": (616, 1, 94, NUMBER, "octet stores"),
         "bodies": (522, 4, 188, NUMBER, "layouts, fields, rules"),
-        "image": (522, 5, 188, NUMBER, "contents, the whole rule"),
-        "numbers": (522, 6, 188, NUMBER, "the last of each entry"),
-        "association": (522, 7, 188, NUMBER, "search, entries"),
+        "keys": (522, 5, 188, NUMBER, "the key part"),
+        "image": (522, 6, 188, NUMBER, "contents, the whole rule"),
+        "numbers": (522, 7, 188, NUMBER, "the last of each entry"),
+        "association": (522, 8, 188, NUMBER, "search, entries"),
         "services": (24, 10, 400, DATA, "the two services"),
         "security_header": (24, 11, 320, DATA, "its octets, and the number in it"),
         "protection": (352, 11, 358, DATA, "the secured frame, what the MAC covers"),
@@ -736,7 +883,7 @@ def layers():
         ("lent", "judging", 500), ("admission", "judging", 417), ("verdicts", "judging", 352), ("verdicts", "sealing", 99),
         ("verdicts", "opening", 257), ("judging", "protection", 525), ("sealing", "security_header", 99),
         ("opening", "security_header", 257), ("security_header", "services", 184), ("protection", "services", 388), ("protection", "masking", 437), ("services", "cmac", 80), ("services", "gcm", 244),
-        ("association", "numbers", 616), ("numbers", "image", 616), ("image", "bodies", 616), ("bodies", "kinds", 555),
+        ("association", "numbers", 616), ("numbers", "image", 616), ("image", "keys", 616), ("keys", "bodies", 616), ("bodies", "kinds", 555),
         ("bodies", "marks", 706), ("masking", "frame", 437), ("frame", "kinds", 437), ("kinds", "telecommand", 418), ("kinds", "telemetry", 527),
         ("kinds", "aos", 590), ("telecommand", "headers", 418), ("telemetry", "headers", 527), ("aos", "headers", 590), ("gcm", "gctr", 194),
         ("gcm", "ghash", 298),
@@ -783,6 +930,7 @@ def layers():
 
 
 PICTURES = [tc_header, tc_segment_header, tm_header, aos_header, lambda: secured(1), lambda: secured(2), check_field, image, body]
+PICTURES += [image_keys, body_keys, initialization_vector, key_states]
 PICTURES += [commands, channel_names, states, packed_result, layers, management, ground]
 
 

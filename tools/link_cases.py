@@ -1,7 +1,7 @@
 #!/usr/bin/env python3
 """Makes crates/link_cases/stdin, calls of the module, and crates/link_cases/stdout, what is expected to come back and to change.
 
-All of it is read off document 01, and requests 1, 2, 4, 5 and 6 of document 02, here, over whole numbers and strings of octets, and not off the code;
+All of it is read off document 01, and requests 1, 2, 4, 5, 6 and 9 of document 02, here, over whole numbers and strings of octets, and not off the code;
 AES is OpenSSL's. Each call below states the answer that the paper gives it, and the reading is held to that as well:
 
   python3 tools/link_cases.py        (needs the Python package `cryptography`)
@@ -19,6 +19,9 @@ HEADER = {1: 5, 2: 6, 3: 6, 4: 6}
 LARGEST = {1: 1024, 2: 1024, 3: 2048, 4: 2048}
 SECURITY = {1: 6, 2: 14}
 FIELDS = dict(service=1, kind=1, direction=1, state=1, spacecraft=2, channel=1, map=1, window=2, mask=6, key=32, code=4)
+KEYED_FIELDS = dict(service=1, kind=1, direction=1, state=1, spacecraft=2, channel=1, map=1, window=2, mask=6, key_id=2, code=4)
+KEY_PART = 65535
+PRE_ACTIVE, ACTIVE, DEACTIVATED = 0, 1, 2
 
 
 # 'The image'
@@ -40,28 +43,52 @@ class Entry:
     mark: int = 0
     code: int = None
     version: int = 1
+    key_id: int = 7
 
     def channels(self):
-        """The channels that it serves: of kind 3 in version 2, those whose bits are 1, the lowest bit for channel 0."""
-        if (self.version, self.kind) == (2, 3):
+        """The channels that it serves: of kind 3 from version 2 on, those whose bits are 1, the lowest bit for channel 0."""
+        if self.version >= 2 and self.kind == 3:
             return {c for c in range(8) if self.channel & 1 << c}
         return {self.channel}
 
     def body(self):
         code = self.mark ^ self.mark // 2 if self.code is None else self.code
         values = dict(vars(self), code=code)
-        return b"".join(values[name] if name in ("mask", "key") else values[name].to_bytes(n, "big") for name, n in FIELDS.items())
+        fields = fields_of(self.version)
+        return b"".join(values[name] if name in ("mask", "key") else values[name].to_bytes(n, "big") for name, n in fields.items())
 
 
-def positions_of(k):
-    return [2 + 4 * k + 52 * i for i in range(k)]
+@dataclass(frozen=True)
+class Key:
+    id: int
+    state: int = ACTIVE
+    octets: bytes = bytes(range(32))
+
+    def laid_out(self):
+        return self.id.to_bytes(2, "big") + bytes([self.state]) + self.octets
 
 
-def image_of(*entries, positions=None):
-    k = len(entries)
-    places = positions_of(k) if positions is None else positions
-    contents = b"".join(e.spi.to_bytes(2, "big") + place.to_bytes(2, "big") for e, place in zip(entries, places))
-    return bytes([max([1, *(e.version for e in entries)]), k]) + contents + b"".join(e.body() for e in entries)
+def fields_of(version):
+    return KEYED_FIELDS if version == 3 else FIELDS
+
+
+def positions_of(k, version=1):
+    """Where the bodies stand, and behind them the key part of version 3; its contents have one entry more than are counted."""
+    first, size = 2 + 4 * k + (4 if version == 3 else 0), sum(fields_of(version).values())
+    return [first + size * i for i in range(k + (version == 3))]
+
+
+def image_of(*entries, positions=None, last=KEY_PART, keys=None, count=None, version=None):
+    """An image of the version of its entries. Of version 3 it has these keys, or else one for each that is named, active."""
+    k, version = len(entries), max([1, *(e.version for e in entries)]) if version is None else version
+    places = positions_of(k, version) if positions is None else positions
+    spis = [e.spi for e in entries] + ([last] if version == 3 else [])
+    contents = b"".join(spi.to_bytes(2, "big") + place.to_bytes(2, "big") for spi, place in zip(spis, places))
+    bodies = b"".join(replace(e, version=version).body() for e in entries)
+    if version != 3:
+        return bytes([version, k]) + contents + bodies
+    keys = sorted({Key(e.key_id, ACTIVE, e.key) for e in entries}, key=lambda key: key.id) if keys is None else keys
+    return bytes([version, k]) + contents + bodies + bytes([len(keys) if count is None else count]) + b"".join(key.laid_out() for key in keys)
 
 
 def decoded_mark(code):
@@ -74,7 +101,7 @@ def decoded_mark(code):
 
 def read_body(version, spi, body):
     values, at = {}, 0
-    for name, n in FIELDS.items():
+    for name, n in fields_of(version).items():
         part, at = body[at : at + n], at + n
         values[name] = part if name in ("mask", "key") else int.from_bytes(part, "big")
     return Entry(version=version, spi=spi, mark=decoded_mark(values["code"]), **values)
@@ -97,22 +124,62 @@ def is_allowed(e):
     )
 
 
+def at_keys(image):
+    """Where the key part stands, in an image of version 3."""
+    return positions_of(image[1], 3)[-1]
+
+
+def keys_in(image):
+    """The keys of a key part that is as long as its count says, in their order; none below version 3."""
+    if image[0] != 3:
+        return []
+    at = [at_keys(image) + 1 + 35 * j for j in range(image[at_keys(image)])]
+    return [Key(int.from_bytes(image[x : x + 2], "big"), image[x + 2], image[x + 3 : x + 35]) for x in at]
+
+
+def has_size(image):
+    k = image[1]
+    if image[0] != 3:
+        return len(image) == 2 + 56 * k
+    return len(image) > 6 + 26 * k and image[6 + 26 * k] <= 64 and len(image) == 7 + 26 * k + 35 * image[6 + 26 * k]
+
+
+def keys_ok(image, entries):
+    """IDs rise, states are 0 to 2, and an operational body names a key that is there and active."""
+    keys = keys_in(image)
+    active = {key.id for key in keys if key.state == ACTIVE}
+    is_rising = all(a.id < b.id for a, b in zip(keys, keys[1:]))
+    return is_rising and all(key.state <= 2 for key in keys) and all(e.key_id in active for e in entries if e.state == 2)
+
+
+def with_key(image, e):
+    """A body of version 3 with the octets of the key that it names, if that is there."""
+    named = [key.octets for key in keys_in(image) if key.id == e.key_id]
+    return replace(e, key=named[0]) if named else e
+
+
 def read_image(image):
     """The entries, or None where the image breaks a rule."""
-    if len(image) < 2 or image[0] not in (1, 2) or image[1] > 32 or len(image) != 2 + 56 * image[1]:
+    if len(image) < 2 or image[0] not in (1, 2, 3) or image[1] > 32 or not has_size(image):
         return None
-    k, entries = image[1], []
-    for i in range(k):
-        spi, position = (int.from_bytes(image[at : at + 2], "big") for at in (2 + 4 * i, 4 + 4 * i))
-        if position != 2 + 4 * k + 52 * i or (entries and spi <= entries[-1].spi):
+    k, entries, size = image[1], [], sum(fields_of(image[0]).values())
+    contents = [tuple(int.from_bytes(image[at : at + 2], "big") for at in (2 + 4 * i, 4 + 4 * i)) for i in range(k + (image[0] == 3))]
+    for (spi, position), place in zip(contents[:k], positions_of(k, image[0])):
+        if position != place or (entries and spi <= entries[-1].spi):
             return None
-        entries.append(read_body(image[0], spi, image[position : position + 52]))
-    return entries if all(map(is_allowed, entries)) else None
+        entries.append(read_body(image[0], spi, image[position : position + size]))
+    if not all(map(is_allowed, entries)):
+        return None
+    if image[0] != 3:
+        return entries
+    if contents[k] != (KEY_PART, at_keys(image)) or not keys_ok(image, entries):
+        return None
+    return [with_key(image, e) for e in entries]
 
 
 def stored(image, i, mark, count):
     """The image after the first so many stores that raise the mark of entry i from this one."""
-    at = 2 + 4 * image[1] + 52 * i + 48
+    at = positions_of(image[1], image[0])[i] + sum(fields_of(image[0]).values()) - 4
     for m in range(mark + 1, mark + count + 1):
         after = image[:at] + (m ^ m // 2).to_bytes(4, "big") + image[at + 4 :]
         assert sum(a != b for a, b in zip(image, after)) == 1, "a raise stores one octet"
@@ -248,13 +315,18 @@ SLIPS = [
 ]
 
 
+def iv_prefix(e):
+    """What the IV of version 3 has in front of the number, as a number of 12 octets."""
+    return e.spi << 64 if e.version == 3 and e.service == 2 else 0
+
+
 def secured_frame(e, kind, frame, n, slip=None, field=False):
     """The secured frame of a clear one. A slip makes its MAC as the paper does not."""
     h, f = header_length(kind, frame), trailer(kind, frame, field)
     header, data, ocf = frame[:h], frame[h : len(frame) - f], frame[len(frame) - f : len(frame) - 2 * field]
     size = len(frame) + SECURITY[e.service] + 16
     sent = header if kind in (3, 4) else header[:2] + packed((bits(header, 16, 6), 6), (size - 1, 10)) + header[4:]
-    iv = n.to_bytes(SECURITY[e.service] - 2, "big")
+    iv = (iv_prefix(e) + n).to_bytes(SECURITY[e.service] - 2, "big")
     security = e.spi.to_bytes(2, "big") + iv
     before = covered(sent, e.mask) + security
     out, mac = protected(e, iv, before, data)
@@ -281,14 +353,14 @@ def secured_frame(e, kind, frame, n, slip=None, field=False):
 
 
 def opened(e, kind, frame, field=False):
-    """The number in a secured frame, whether its MAC is right, and its clear data."""
+    """The number in a secured frame, whether its MAC is right, and its clear data. Behind another prefix than its own no number is in any window."""
     h, end = header_length(kind, frame), len(frame) - trailer(kind, frame, field)
     at = h + SECURITY[e.service]
     security, out, mac = frame[h:at], frame[at : end - 16], frame[end - 16 : end]
     before = covered(frame[:h], e.mask) + security
     # in GCM the text is the exclusive-or of the data and what the IV alone decides, so that protecting the text once more gives the data
     data = protected(e, security[2:], before, out)[0]
-    return int.from_bytes(security[2:], "big"), protected(e, security[2:], before, data)[1] == mac, data
+    return int.from_bytes(security[2:], "big") - iv_prefix(e), protected(e, security[2:], before, data)[1] == mac, data
 
 
 # 'What comes back'
@@ -360,8 +432,10 @@ def checking(image, numbers, kind, field, frame, room):
 
 START, STOP, REKEY, EXPIRE = 0b00011011, 0b00011110, 0b00010110, 0b00011001
 SET_NUMBER, SET_WINDOW, STATUS, READ_NUMBER, PING = 0b00011010, 0b00010101, 0b00011111, 0b00010000, 0b00110001
+ACTIVATION, DEACTIVATION, INVENTORY = 0b00000010, 0b00000011, 0b00000111
 # The octets of a value, and what a command asks of the state: 0 unkeyed, 1 keyed, 2 operational. Start has a channel or more.
 VALUES = {STOP: 2, REKEY: 16, EXPIRE: 2, SET_NUMBER: 14, SET_WINDOW: 4, STATUS: 2, READ_NUMBER: 2, PING: 0}
+VALUES |= {ACTIVATION: 2, DEACTIVATION: 2, INVENTORY: 4}
 STATES = {START: {1}, STOP: {2}, EXPIRE: {1}, REKEY: {0}, SET_WINDOW: {0, 1}}
 GOES_TO = {START: 2, STOP: 1, EXPIRE: 0, REKEY: 1}
 
@@ -397,8 +471,29 @@ def is_refused_value(e, last, tag, rest):
     if tag == START:
         named = {rest[at : at + 4] for at in range(0, len(rest), 4)}
         return not named <= channel_names(e) or not 1 <= e.window <= 1024
-    n = int.from_bytes(rest, "big")
+    n = int.from_bytes(rest[2:] if tag == REKEY and e.version == 3 else rest, "big")
     return {REKEY: n != 0, SET_WINDOW: not 1 <= n <= 1024, SET_NUMBER: not last < n <= min(last + 1024, MOST)}.get(tag, False)
+
+
+def refused_key(image, entries, tag, id):
+    """17 where there is no key of that ID, 18 where its state, or for deactivation its use, does not allow the command; else 0."""
+    states = {key.id: key.state for key in keys_in(image)}
+    if id not in states:
+        return 17
+    is_used = tag == DEACTIVATION and any(e.state == 2 and e.key_id == id for e in entries)
+    return 18 if states[id] != (PRE_ACTIVE if tag == ACTIVATION else ACTIVE) or is_used else 0
+
+
+def managing_keys(image, entries, tag, value, room):
+    first, last = int.from_bytes(value[:2], "big"), int.from_bytes(value[2:], "big")
+    if tag == INVENTORY:
+        listed = [key.laid_out()[:3] for key in keys_in(image) if first <= key.id <= last]
+        reply = tlv(tag | 128, len(listed).to_bytes(2, "big") + b"".join(listed))
+        return 6 if room < len(reply) else Done(reply)
+    if refused_key(image, entries, tag, first):
+        return refused_key(image, entries, tag, first)
+    place = [key.id for key in keys_in(image)].index(first)
+    return Done(stores=((at_keys(image) + 1 + 35 * place + 2, ACTIVE if tag == ACTIVATION else DEACTIVATED),))
 
 
 def managing(image, numbers, octets, room):
@@ -412,6 +507,8 @@ def managing(image, numbers, octets, room):
     tag, value = octets[0], octets[3:]
     if tag == PING:
         return 6 if room < 3 else Done(tlv(tag | 128))
+    if tag in (ACTIVATION, DEACTIVATION, INVENTORY):
+        return managing_keys(image, entries, tag, value, room)
     found = [i for i, e in enumerate(entries) if e.spi == int.from_bytes(value[:2], "big")]
     if not found:
         return 14
@@ -420,9 +517,14 @@ def managing(image, numbers, octets, room):
         return 15
     if is_refused_value(entries[i], numbers[i], tag, rest):
         return 16
+    named = int.from_bytes(rest[:2], "big") if tag == REKEY else entries[i].key_id
+    if image[0] == 3 and tag in (START, REKEY) and refused_key(image, entries, tag, named):
+        return refused_key(image, entries, tag, named)
     if tag == SET_NUMBER:
         return Done(entry=i, number=int.from_bytes(rest, "big"))
-    at = positions_of(len(entries))[i]
+    at = positions_of(len(entries), image[0])[i]
+    if tag == REKEY and image[0] == 3:
+        return Done(stores=((at + 16, rest[0]), (at + 17, rest[1]), (at + 3, GOES_TO[tag])))
     if tag == SET_WINDOW:
         return Done(stores=((at + 8, rest[0]), (at + 9, rest[1])))
     if tag in GOES_TO:
@@ -485,9 +587,9 @@ class Module:
             loaded = [64 * e.mark + 63 for e in entries]
             self.expect("answer 0 length 0 stores 0 result", self.octets, loaded + [0] * (32 - len(loaded)))
 
-    def fresh(self, *entries):
+    def fresh(self, *entries, keys=None):
         """A new image, loaded."""
-        self.image(image_of(*entries))
+        self.image(image_of(*entries, keys=keys))
         self.load()
 
     def stand(self, entry, last):
@@ -703,7 +805,7 @@ def broken_entries():
 
 def broken_images():
     good, other = image_of(B), replace(B, spi=10)
-    yield from (b"", b"\x01", b"\x00\x00", b"\x03\x00", b"\x01\x00\x00", good[:-1], good + b"\x00", b"\x03" + good[1:])
+    yield from (b"", b"\x01", b"\x00\x00", b"\x04\x00", b"\x01\x00\x00", good[:-1], good + b"\x00", b"\x04" + good[1:])
     yield from (good[:5] + bytes([x]) + good[6:] for x in (5, 7))
     yield bytes([1, 33]) + image_of(*(replace(B, spi=i + 1) for i in range(33)))[2:]
     yield from (image_of(replace(B, spi=x)) for x in (0, 65535))
@@ -848,7 +950,7 @@ def aos_fields(run):
 
 def channel_sets(run):
     """Version 2: a TM association with several channels, and what a slip would make of it."""
-    run.case("1: version 2, kind 3: the empty set; other kinds have a channel; version 1 has no set; versions 0 and 3")
+    run.case("1: version 2, kind 3: the empty set; other kinds have a channel; version 1 has no set; versions 0 and 4")
     for e in (replace(TELEMETRY, version=2, channel=0), replace(TELEMETRY, channel=8), replace(TELEMETRY, channel=128)):
         run.image(image_of(e))
         run.load(1)
@@ -1178,6 +1280,10 @@ def commands_for(e, last):
     yield tlv(PING), 3
 
 
+# The commands about keys, and the least octets of their replies.
+KEY_COMMANDS = [(tlv(ACTIVATION, b"\x00\x07"), 0), (tlv(DEACTIVATION, b"\x00\x07"), 0), (tlv(INVENTORY, b"\x00\x00\xff\xff"), 5)]
+
+
 def command_states(run):
     for state in (0, 1, 2):
         for e in (B, replace(RECEIVING, service=2, mark=70), replace(SEGMENT, mark=255), replace(TELEMETRY, version=2, channel=0x22), CAMERAS):
@@ -1196,7 +1302,7 @@ def command_states(run):
 def command_forms(run):
     run.case("13: lengths one too short and one too long, counted and not; a length in bits; no value, no length, nothing")
     run.fresh(replace(B, state=1))
-    for octets, _ in commands_for(B, 63):
+    for octets, _ in [*commands_for(B, 63), *KEY_COMMANDS]:
         tag, value = octets[0], octets[3:]
         wrong = [tlv(tag, value + b"\x00"), octets + b"\x00", octets[:-1], octets[:2], octets[:1]]
         wrong += [bytes([tag]) + n.to_bytes(2, "big") + value for n in (len(value) + 1, 8 * len(value) or 8, len(value) + 256, 65535)]
@@ -1371,6 +1477,300 @@ def managed_link(run):
             run.manage(octets, None)
 
 
+# Keys in one place: version 3
+
+SHARING = replace(B, version=3, service=2)
+OTHER_KEY = bytes(range(100, 132))
+
+
+def two(n):
+    return n.to_bytes(2, "big")
+
+
+def rekey_of(spi, id, number=0):
+    return tlv(REKEY, two(spi) + two(id) + number_field(number))
+
+
+def broken_key_images():
+    """Images of version 3, each of which breaks one rule, and what it breaks."""
+    pair = [SHARING, replace(SHARING, spi=20, channel=6)]
+    keys, at = [Key(7), Key(263, PRE_ACTIVE)], positions_of(2, 3)
+    good = image_of(*pair, keys=keys)
+    yield "an octet less", good[:-1]
+    yield "an octet more", good + b"\x00"
+    yield "a key more than is counted", good + Key(300).laid_out()
+    yield "the last entry's SPI", image_of(*pair, keys=keys, last=65534)
+    yield "the last entry's SPI is the first one's", image_of(*pair, keys=keys, last=9)
+    for place in (at[2] - 1, at[2] + 1, at[2] + 256, at[0], 0):
+        yield "the key part's position is %d" % place, image_of(*pair, keys=keys, positions=[*at[:2], place])
+    yield "a body's position", image_of(*pair, keys=keys, positions=[at[0], at[1] + 1, at[2]])
+    yield "bodies where version 2 has them", image_of(*pair, keys=keys, positions=[10, 62, at[2]])
+    yield "the last entry is counted", bytes([3, 3]) + good[2:]
+    for count in (0, 1, 3, 66, 255):
+        yield "%d keys are counted" % count, image_of(*pair, keys=keys, count=count)
+    yield "65 keys", image_of(*pair, keys=[Key(7 + j) for j in range(65)])
+    yield "33 entries", bytes([3, 33]) + image_of(*(replace(SHARING, spi=1 + i) for i in range(33)))[2:]
+    for state in (PRE_ACTIVE, DEACTIVATED, 3, 255):
+        yield "the key that is named has state %d" % state, image_of(*pair, keys=[Key(7, state), *keys[1:]])
+    yield "a key that nobody names has state 3", image_of(*pair, keys=[keys[0], Key(263, 3)])
+    yield "equal IDs", image_of(*pair, keys=[Key(7), Key(7)])
+    yield "IDs fall", image_of(*pair, keys=[Key(7), Key(6)])
+    yield "IDs fall at the third", image_of(*pair, keys=[Key(7), Key(263), Key(262)])
+    for id in (0, 6, 8, 263, 263 - 256 + 512, 65535):
+        yield "the second names %d" % id, image_of(pair[0], replace(pair[1], key_id=id), keys=keys)
+    yield "no key at all", image_of(*pair, keys=[])
+    yield "telemetry without a channel", image_of(replace(SHARING, kind=3, channel=0))
+    yield "a TC channel of 64", image_of(replace(SHARING, channel=64))
+    yield "a window of 0", image_of(replace(SHARING, window=0))
+    yield "a mark of 2^26", image_of(replace(SHARING, mark=2**26))
+    yield "SPI 65,535", image_of(replace(SHARING, spi=65535))
+    yield "nothing behind the bodies", good[: at[2]]
+    yield "versions 1 and 2 in front of it", bytes([1]) + good[1:]
+    yield "version 2 in front of it", bytes([2]) + good[1:]
+    yield "version 3 in front of version 2", bytes([3]) + image_of(replace(B, version=2))[1:]
+
+
+def key_images(run):
+    run.case("the smallest image of version 3")
+    run.number(0, 7)
+    run.image(bytes.fromhex("0300ffff000600"))
+    run.load()
+    run.case("1: images of version 3 that break one rule")
+    for name, image in broken_key_images():
+        run.case(name)
+        run.number(0, 63)
+        run.image(image)
+        run.load(1)
+        run.secure(1, 9, C, 1)
+        run.manage(tlv(PING), 1)
+    run.case("0, 1, 2 and 64 keys; IDs 0 and 65,535; 32 entries and 64 keys, 3,079 octets, and one octet more")
+    for k, q in ((0, 1), (0, 64), (1, 1), (1, 2), (2, 64)):
+        keys = [Key(65535 - 1040 * j) for j in reversed(range(q))]
+        run.image(image_of(*(replace(SHARING, spi=9 + i, key_id=65535) for i in range(k)), keys=keys, version=3))
+        run.load()
+    run.fresh(replace(SHARING, key_id=0), keys=[Key(0)])
+    run.fresh(replace(SHARING, state=1), keys=[])
+    full = [replace(SHARING, spi=1 + i, key_id=1040 * (i % 64), mark=i) for i in range(32)]
+    run.fresh(*full, keys=[Key(1040 * j) for j in range(64)])
+    assert len(run.octets) == 3079
+    run.secure(1, 32, C, 0)
+    run.image(run.octets + b"\x00")
+    run.load(1)
+    run.case("entries that are not operational name keys in any state, or none there is")
+    for id in (0, 6, 7, 263, 264, 65535):
+        for state in (0, 1):
+            run.fresh(replace(SHARING, state=state, key_id=id), keys=[Key(7, PRE_ACTIVE), Key(263, DEACTIVATED), Key(264)])
+            run.secure(1, 9, C, 4)
+    run.case("telemetry in version 3 has a set")
+    here = replace(TELEMETRY, version=3, channel=0x22, direction=1)
+    run.fresh(here)
+    for channel in range(8):
+        run.secure(3, 9, tm(b"data", channel=channel), 0 if channel in (1, 5) else 4)
+
+
+def key_frames(run):
+    run.case("what goes out in versions 1, 2 and 3, under both services")
+    for service in (1, 2):
+        for version in (1, 2, 3):
+            run.fresh(replace(B, spi=0x1234, service=service, version=version))
+            sent = run.secure(1, 0x1234, C, 0)
+            iv = "00001234" + 8 * "0" if version == 3 else 16 * "0"
+            assert sent[5:].startswith(bytes.fromhex("1234" + (iv if service == 2 else "") + "00000040")), sent.hex()
+    run.case("8: each bit of the prefix changed, with a right MAC; 7 with a wrong one; and the IVs of other versions")
+    for spi in (9, 0x1234, 65534):
+        here = replace(SHARING, spi=spi, direction=2)
+        run.fresh(here)
+        for bit in range(32, 96):
+            n = (spi << 64 ^ 1 << bit) + 64 - (spi << 64)
+            run.check(1, secured_frame(here, 1, C, n), 8)
+            run.check(1, secured_frame(here, 1, C, n, "another key"), 7)
+        run.check(1, secured_frame(replace(here, version=2), 1, C, 64), 8)
+        run.check(1, secured_frame(here, 1, C, 63), 8)
+        run.check(1, secured_frame(here, 1, C, 164), 8)
+        run.check(1, secured_frame(here, 1, C, 64), 0, stores=1)
+        run.check(1, secured_frame(here, 1, C, 64), 8)
+        for version in (1, 2):
+            run.fresh(replace(here, version=version))
+            run.check(1, secured_frame(here, 1, C, 64), 8)
+            run.check(1, secured_frame(replace(here, version=version), 1, C, 64), 0)
+    run.case("service 1 is the same in all versions, from one to another")
+    for there in (1, 2, 3):
+        for here in (1, 2, 3):
+            run.fresh(replace(RECEIVING, version=there))
+            run.check(1, secured_frame(replace(B, version=here), 1, C, 64), 0)
+    run.case("the last numbers in version 3")
+    run.stand(replace(SHARING, direction=2), 4294967290)
+    run.check(1, secured_frame(SHARING, 1, C, 2**32), 8)
+    run.check(1, secured_frame(SHARING, 1, C, MOST), 0)
+    run.stand(SHARING, MOST)
+    run.secure(1, 9, C, 10)
+
+
+def shared_keys(run):
+    run.case("a key is found by its ID, whatever its place; IDs that share an octet")
+    keys = [Key(j, ACTIVE, bytes([j // 256, j % 256] * 16)) for j in (0, 1, 7, 256, 263, 519, 1792, 65535)]
+    for key in keys:
+        here = replace(SHARING, key_id=key.id, key=key.octets)
+        run.fresh(here, keys=keys)
+        sent = run.secure(1, 9, C, 0)
+        run.fresh(replace(here, direction=2), keys=keys)
+        assert run.check(1, sent, 0) == C[5:]
+        run.fresh(replace(here, direction=2, key_id=3), keys=[Key(3, ACTIVE, key.octets)])
+        run.check(1, sent, 0)
+        run.fresh(replace(here, direction=2), keys=[replace(k, octets=k.octets if k != key else OTHER_KEY) for k in keys])
+        run.check(1, sent, 7)
+    run.case("two associations under one key, sending in turn: no IV goes out twice; the other end has another ID for it")
+    pair = [SHARING, replace(SHARING, spi=20, channel=6)]
+    run.fresh(*pair)
+    sent = []
+    for i in range(140):
+        e = pair[i % 2]
+        sent.append(run.secure(1, e.spi, tc(9, b"same", channel=e.channel), 0))
+    assert len({frame[7:19] for frame in sent}) == len(sent)
+    run.fresh(*(replace(e, direction=2, key_id=0x0700) for e in pair), keys=[Key(7, ACTIVE, OTHER_KEY), Key(0x0700, ACTIVE, SHARING.key)])
+    for frame in sent:
+        run.check(1, frame, 0)
+
+
+def key_commands(run):
+    """Start, rekey, activation and deactivation, for each state of the association and of the key."""
+    absent = None
+    for state in (0, 1, 2):
+        for key_state in (absent, PRE_ACTIVE, ACTIVE, DEACTIVATED):
+            here = replace(SHARING, state=state)
+            keys = [Key(1), *([] if key_state is absent else [Key(7, key_state)]), Key(263), Key(0x0707, PRE_ACTIVE), Key(65535, DEACTIVATED)]
+            image = image_of(here, keys=keys)
+            if read_image(image) is None:
+                assert state == 2 and key_state != ACTIVE
+                continue
+            by_key = {absent: 17, ACTIVE: 0}.get(key_state, 18)
+            due = [
+                (start_of(here), by_key if state == 1 else 15, 1),
+                (rekey_of(9, 7), by_key if state == 0 else 15, 3),
+                (rekey_of(9, 263), 0 if state == 0 else 15, 3),
+                (rekey_of(9, 0x0707), 18 if state == 0 else 15, 0),
+                (rekey_of(9, 65535), 18 if state == 0 else 15, 0),
+                (rekey_of(9, 0), 17 if state == 0 else 15, 0),
+                (rekey_of(9, 264, 1), 16 if state == 0 else 15, 0),
+                (rekey_of(9, 7, 2**95), 16 if state == 0 else 15, 0),
+                (tlv(START, two(9) + bytes(4)), 16 if state == 1 else 15, 0),
+                (tlv(ACTIVATION, two(7)), {absent: 17, PRE_ACTIVE: 0}.get(key_state, 18), 1),
+                (tlv(DEACTIVATION, two(7)), {absent: 17, ACTIVE: 18 if state == 2 else 0}.get(key_state, 18), 1),
+                (tlv(ACTIVATION, two(0x0707)), 0, 1),
+                (tlv(DEACTIVATION, two(0x0707)), 18, 0),
+                (tlv(DEACTIVATION, two(263)), 0, 1),
+                (tlv(ACTIVATION, two(65535)), 18, 0),
+                (tlv(ACTIVATION, two(9)), 17, 0),
+                (tlv(DEACTIVATION, two(264)), 17, 0),
+                (tlv(EXPIRE, two(9)), 0 if state == 1 else 15, 1),
+                (tlv(STOP, two(9)), 0 if state == 2 else 15, 1),
+                (tlv(SET_WINDOW, two(9) + two(999)), 15 if state == 2 else 0, 2),
+                (tlv(SET_NUMBER, two(9) + number_field(127)), 0, 1),
+            ]
+            run.case("version 3, state %d, key %s: commands that need a key, or none" % (state, "not there" if key_state is absent else key_state))
+            for octets, answer, stores in due:
+                run.image(image)
+                run.load()
+                run.manage(octets, answer, room=0, stores=stores if answer == 0 else None)
+                run.load()
+    run.case("a window that does not start, and a key that is not active: 16 before 17 and 18")
+    for keys in ([], [Key(7, PRE_ACTIVE)], [Key(7)]):
+        run.fresh(replace(SHARING, state=1, window=0), keys=keys)
+        run.manage(start_of(SHARING), 16)
+    run.case("read number and set number have the number alone in 12 octets, in version 3 too")
+    run.fresh(SHARING)
+    assert run.manage(tlv(READ_NUMBER, two(9)), 0)[5:] == number_field(63)
+    run.manage(tlv(SET_NUMBER, two(9) + number_field((9 << 64) + 64)), 16)
+    run.manage(tlv(SET_NUMBER, two(9) + number_field(64)), 0, stores=1)
+    run.case("rekey stores all three octets, also those that stay")
+    for id in (7, 263, 0x0207, 65535):
+        run.fresh(replace(SHARING, state=0), keys=[Key(7), Key(263), Key(0x0207), Key(65535)])
+        run.manage(rekey_of(9, id), 0, stores=3)
+    run.case("versions 1 and 2 have no key with an ID: 17, and an empty inventory; rekey names 0")
+    for version in (1, 2):
+        run.fresh(replace(B, version=version, state=0))
+        for id in (0, 1, 7, 9, 65535):
+            run.manage(tlv(ACTIVATION, two(id)), 17)
+            run.manage(tlv(DEACTIVATION, two(id)), 17)
+        assert run.manage(tlv(INVENTORY, b"\x00\x00\xff\xff"), 0, room=5) == bytes.fromhex("8700020000")
+        run.manage(rekey_of(9, 7), 16)
+        run.manage(rekey_of(9, 0), 0, stores=1)
+
+
+def inventories(run):
+    run.case("inventory: each range of IDs, and a room that is one short")
+    keys = [Key(0, DEACTIVATED), Key(7), Key(263, PRE_ACTIVE), Key(65535)]
+    run.fresh(replace(SHARING, state=1), keys=keys)
+    for first in (0, 1, 7, 8, 263, 264, 65535):
+        for last in (0, 6, 7, 262, 263, 65534, 65535):
+            size = 5 + 3 * sum(first <= key.id <= last for key in keys)
+            run.manage(tlv(INVENTORY, two(first) + two(last)), 6, room=size - 1)
+            assert len(run.manage(tlv(INVENTORY, two(first) + two(last)), 0, room=size, stores=0)) == size
+    run.case("inventory: no key, and 64")
+    run.fresh(replace(SHARING, state=1), keys=[])
+    run.manage(tlv(INVENTORY, b"\x00\x00\xff\xff"), 0, room=5)
+    run.fresh(replace(SHARING, state=1), keys=[Key(9 * j, j % 3) for j in range(64)])
+    run.manage(tlv(INVENTORY, b"\x00\x00\xff\xff"), 6, room=196)
+    assert len(run.manage(tlv(INVENTORY, b"\x00\x00\xff\xff"), 0, room=197)) == 197
+
+
+def key_use(run):
+    run.case("deactivation: 18 while any operational body names the key, whichever it is; keyed and unkeyed bodies do not count")
+    for place in (0, 1, 2, 31):
+        for state in (0, 1, 2):
+            k = max(3, place + 1)
+            entries = [replace(SHARING, spi=9 + i, direction=1 + i % 2) for i in range(k)]
+            entries[place] = replace(entries[place], state=state, key_id=263)
+            run.fresh(*entries, keys=[Key(7), Key(263)])
+            run.manage(tlv(DEACTIVATION, two(263)), 18 if state == 2 else 0)
+            run.manage(tlv(DEACTIVATION, two(7)), 18)
+    run.case("a shared key is changed in one place; what is left after each store loads")
+    pair = [SHARING, replace(SHARING, spi=20, channel=6)]
+    run.fresh(*pair, keys=[Key(7), Key(0x0108, PRE_ACTIVE, OTHER_KEY)])
+    numbers = [opened(SHARING, 1, run.secure(1, 9, C, 0))[0]]
+    steps = [(tlv(ACTIVATION, two(0x0108)), 0), (tlv(DEACTIVATION, two(7)), 18)]
+    for e in pair:
+        steps += [(tlv(STOP, two(e.spi)), 0), (tlv(EXPIRE, two(e.spi)), 0), (rekey_of(e.spi, 0x0108), 0), (start_of(e), 0)]
+    steps += [(tlv(DEACTIVATION, two(7)), 0), (tlv(ACTIVATION, two(7)), 18), (rekey_of(9, 7), 15)]
+    for octets, answer in steps:
+        before, last = run.octets, list(run.numbers)
+        run.manage(octets, answer)
+        after, done = run.octets, managing(before, last, octets, 17)
+        for j in range(len(done.stores) if isinstance(done, Done) else 0):
+            for place, octet in done.stores[: j + 1]:
+                before = before[:place] + bytes([octet]) + before[place + 1 :]
+            run.image(before)
+            run.load()
+        run.image(after)
+        for i, n in enumerate(last[:2]):
+            run.number(i, n)
+    new = replace(SHARING, key=OTHER_KEY)
+    numbers += [opened(new, 1, run.secure(1, 9, C, 0))[0]]
+    assert opened(new, 1, secured_frame(new, 1, C, 65))[1] and numbers == [64, 65]
+    run.fresh(replace(SHARING, state=0, key_id=0x0107), keys=[Key(7), Key(0x0108)])
+    run.manage(start_of(SHARING), 15)
+    run.manage(rekey_of(9, 0x0108), 0)
+
+
+def to_version_3(run):
+    run.case("from version 2 to version 3: bodies as they were, with a key ID for the key, and their marks; the numbers go on")
+    before = [replace(B, version=2, mark=3), replace(TELEMETRY, version=2, spi=10, channel=0x22, direction=1, mark=70, service=2, key=OTHER_KEY)]
+    run.fresh(*before)
+    run.secure(1, 9, C, 0)
+    run.secure(3, 10, tm(b"data"), 0)
+    last, old = list(run.numbers), run.octets
+    places = positions_of(2, 2)
+    bodies = [old[at : at + 16] + two(id) + old[at + 48 : at + 52] for at, id in zip(places, (1, 2))]
+    contents = b"".join(two(spi) + two(at) for spi, at in zip((9, 10, KEY_PART), positions_of(2, 3)))
+    run.image(bytes([3, 2]) + contents + b"".join(bodies) + bytes([2]) + Key(1, ACTIVE, B.key).laid_out() + Key(2, ACTIVE, OTHER_KEY).laid_out())
+    assert [e.mark for e in read_image(run.octets)] == [n // 64 for n in last[:2]]
+    run.secure(1, 9, C, 0)
+    run.secure(3, 10, tm(b"data", channel=1), 0)
+    assert run.numbers[:2] == [n + 1 for n in last[:2]]
+    run.load()
+    run.secure(1, 9, C, 0, stores=1)
+
+
 def sends_in_a_row(run):
     run.case("sends in a row: a store at 64, at 128, and at none between them")
     run.fresh(B)
@@ -1415,6 +1815,13 @@ def main():
     command_channels(run)
     command_orders(run)
     managed_link(run)
+    key_images(run)
+    key_frames(run)
+    shared_keys(run)
+    key_commands(run)
+    inventories(run)
+    key_use(run)
+    to_version_3(run)
     sends_in_a_row(run)
     longest(run)
     here = os.path.join(os.path.dirname(os.path.abspath(__file__)), "..", "crates", "link_cases")

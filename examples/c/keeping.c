@@ -1,5 +1,7 @@
 #include "keeping.h"
 
+#include "xistalvo_image.h"
+
 #include <fcntl.h>
 #include <libgen.h>
 #include <stdio.h>
@@ -89,11 +91,13 @@ bool kept_in_file(struct kept *kept, const char *path)
 
 /* ---- memory behind a driver ---- */
 
-/* The place of a field of an entry, in an image that loads. */
+/* The place of a field of an entry, in an image that loads. Up to the mask all versions have it at the same place of a body. */
 static size_t place_of(const struct kept *kept, uint8_t entry, size_t field)
 {
-    return (size_t)XISTALVO_AT_BODY(kept->image[XISTALVO_AT_COUNT], entry) + field;
+    return xistalvo_place_of_body(kept->image, entry) + field;
 }
+
+static bool has_keys(const struct kept *kept) { return kept->image[XISTALVO_AT_VERSION] == XISTALVO_IMAGE_VERSION_KEYS; }
 
 static bool store_at(struct kept *kept, size_t place, uint8_t octet, store_octet *store, void *driver)
 {
@@ -111,7 +115,7 @@ static bool store_at(struct kept *kept, size_t place, uint8_t octet, store_octet
 static bool store_next(struct kept *kept, uint8_t entry, store_octet *store, void *driver)
 {
     uint8_t next[XISTALVO_LARGEST_IMAGE];
-    size_t place = place_of(kept, entry, XISTALVO_IN_MARK);
+    size_t place = xistalvo_place_of_mark(kept->image, entry);
     memcpy(next, kept->lasting, kept->length);
     if (xistalvo_raise(next, kept->length, entry, kept->numbers[entry], 1) != 1) {
         return false; /* the numbers are not those of this image */
@@ -122,30 +126,73 @@ static bool store_next(struct kept *kept, uint8_t entry, store_octet *store, voi
     return store_at(kept, place, next[place], store, driver);
 }
 
-/* Brings window and state of this entry up to the image. Between its two octets a window may be any, so it is stored where the state is not
- * operational; the state comes last. */
+static bool store_two(struct kept *kept, size_t place, store_octet *store, void *driver)
+{
+    return store_at(kept, place, kept->image[place], store, driver) && store_at(kept, place + 1, kept->image[place + 1], store, driver);
+}
+
+static bool changes_at(const struct kept *kept, size_t place) { return memcmp(kept->image + place, kept->lasting + place, 2) != 0; }
+
+/* Between its two octets a window, or a key ID, may be any, so it is stored where the state is not operational. And a key is stored as
+ * deactivated only after every association that used it has left operation. So these leave it first. */
+static bool store_rest(struct kept *kept, uint8_t entry, store_octet *store, void *driver)
+{
+    size_t state = place_of(kept, entry, XISTALVO_IN_STATE);
+    bool is_changing = changes_at(kept, place_of(kept, entry, XISTALVO_IN_WINDOW))
+        || (has_keys(kept) && changes_at(kept, place_of(kept, entry, XISTALVO_IN_KEY_ID_3)));
+    uint8_t rest = kept->image[state] == XISTALVO_OPERATIONAL ? XISTALVO_KEYED : kept->image[state];
+    if (kept->lasting[state] != XISTALVO_OPERATIONAL || (!is_changing && kept->image[state] == XISTALVO_OPERATIONAL)) {
+        return true;
+    }
+    return store_at(kept, state, rest, store, driver);
+}
+
+static bool store_key_states(struct kept *kept, store_octet *store, void *driver)
+{
+    size_t count = kept->image[XISTALVO_AT_COUNT], keys = has_keys(kept) ? kept->image[XISTALVO_AT_KEY_COUNT_3(count)] : 0;
+    for (size_t j = 0; j < keys; j++) {
+        size_t state = XISTALVO_AT_KEY_3(count, j) + XISTALVO_IN_KEY_STATE;
+        if (!store_at(kept, state, kept->image[state], store, driver)) {
+            return false;
+        }
+    }
+    return true;
+}
+
+/* Brings window, key ID and state of this entry up to the image, the state last. */
 static bool store_managed(struct kept *kept, uint8_t entry, store_octet *store, void *driver)
 {
-    size_t state = place_of(kept, entry, XISTALVO_IN_STATE), window = place_of(kept, entry, XISTALVO_IN_WINDOW);
-    bool is_changing = memcmp(kept->image + window, kept->lasting + window, 2) != 0;
-    if (is_changing && kept->lasting[state] == XISTALVO_OPERATIONAL && !store_at(kept, state, XISTALVO_KEYED, store, driver)) {
-        return false;
-    }
-    return store_at(kept, window, kept->image[window], store, driver) && store_at(kept, window + 1, kept->image[window + 1], store, driver)
+    size_t state = place_of(kept, entry, XISTALVO_IN_STATE);
+    return store_two(kept, place_of(kept, entry, XISTALVO_IN_WINDOW), store, driver)
+        && (!has_keys(kept) || store_two(kept, place_of(kept, entry, XISTALVO_IN_KEY_ID_3), store, driver))
         && store_at(kept, state, kept->image[state], store, driver);
+}
+
+static bool store_mark(struct kept *kept, uint8_t entry, store_octet *store, void *driver)
+{
+    size_t place = xistalvo_place_of_mark(kept->image, entry);
+    while (memcmp(kept->image + place, kept->lasting + place, 4) != 0) {
+        if (!store_next(kept, entry, store, driver)) {
+            return false;
+        }
+    }
+    return true;
 }
 
 bool kept_in_memory(struct kept *kept, store_octet *store, void *driver)
 {
-    for (uint8_t entry = 0; entry < kept->image[XISTALVO_AT_COUNT]; entry++) {
-        size_t place = place_of(kept, entry, XISTALVO_IN_MARK);
-        if (!store_managed(kept, entry, store, driver)) {
+    uint8_t count = kept->image[XISTALVO_AT_COUNT];
+    for (uint8_t entry = 0; entry < count; entry++) {
+        if (!store_rest(kept, entry, store, driver)) {
             return false;
         }
-        while (memcmp(kept->image + place, kept->lasting + place, 4) != 0) {
-            if (!store_next(kept, entry, store, driver)) {
-                return false;
-            }
+    }
+    if (!store_key_states(kept, store, driver)) {
+        return false;
+    }
+    for (uint8_t entry = 0; entry < count; entry++) {
+        if (!store_managed(kept, entry, store, driver) || !store_mark(kept, entry, store, driver)) {
+            return false;
         }
     }
     return true;

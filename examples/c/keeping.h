@@ -34,7 +34,8 @@ bool kept_in_file(struct kept *kept, const char *path);
 
 /* The same for memory behind a driver, which writes one octet and returns when it lasts. The stores are made in the module's own order, one
  * by one, so that a loss of power leaves the image after the first j of them. Where several commands could not be kept before, an association
- * whose window changed is stored as keyed first, so that each octet leaves an image that loads. */
+ * whose window or key changed, or that left operation, is stored as such first, then the states of keys, then the rest, so that each octet
+ * leaves an image that loads. */
 typedef bool store_octet(void *driver, size_t address, uint8_t octet);
 bool kept_in_memory(struct kept *kept, store_octet *store, void *driver);
 

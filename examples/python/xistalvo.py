@@ -23,12 +23,15 @@ ANSWERS = {
     14: "no association has the SPI",
     15: "state does not allow the command",
     16: "value not allowed",
+    17: "no key has the ID",
+    18: "state of the key, or its use, does not allow the command",
 }
 
 # Management commands by their tags: tag, length of the value in 2 octets, value.
 START, STOP, REKEY, EXPIRE, SET_NUMBER, SET_WINDOW = 0x1B, 0x1E, 0x16, 0x19, 0x1A, 0x15
 STATUS, READ_NUMBER, PING = 0x1F, 0x10, 0x31
-LARGEST_REPLY = 17
+ACTIVATION, DEACTIVATION, INVENTORY = 0x02, 0x03, 0x07
+LARGEST_REPLY = 197
 
 
 class Result:

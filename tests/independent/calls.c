@@ -1,4 +1,5 @@
-/* Document 01: 'Frames' (from 'A secured frame is'), 'Managed numbers' and 'What comes back'; document 02, request 4: answer 12. */
+/* Document 01: 'Frames' (from 'A secured frame is'), 'Managed numbers' and 'What comes back'; document 02, request 4: answer 12, and request 9:
+ * the IV of version 3. */
 #include "ciphers.h"
 #include "reading.h"
 
@@ -21,6 +22,29 @@ void sequence_of_number(uint64_t number, uint8_t sequence[SEQUENCE_LENGTH])
     memset(sequence, 0, SEQUENCE_LENGTH);
     for (size_t i = 0; i < 8; i++) {
         sequence[SEQUENCE_LENGTH - 1 - i] = (uint8_t)(number >> (8 * i));
+    }
+}
+
+/* 'a version 3 IV is the SPI in four octets, four zero octets and the number': the octets in front of the number's four. */
+static void prefix_of_iv(const struct association *association, uint8_t prefix[SEQUENCE_LENGTH - NUMBER_LENGTH])
+{
+    memset(prefix, 0, SEQUENCE_LENGTH - NUMBER_LENGTH);
+    if (association->names_key) {
+        prefix[2] = (uint8_t)(association->spi / 256);
+        prefix[3] = (uint8_t)(association->spi % 256);
+    }
+}
+
+/* A number of more than 32 bits, which no end sends, runs into the prefix. */
+void iv_of_number(const struct association *association, uint64_t number, uint8_t sequence[SEQUENCE_LENGTH])
+{
+    uint8_t prefix[SEQUENCE_LENGTH - NUMBER_LENGTH];
+    sequence_of_number(number, sequence);
+    if (association->service == 2) {
+        prefix_of_iv(association, prefix);
+        for (size_t i = 0; i < sizeof prefix; i++) {
+            sequence[i] |= prefix[i];
+        }
     }
 }
 
@@ -129,14 +153,14 @@ static uint8_t octet_of_code(uint32_t mark, size_t place)
     return (uint8_t)(code_of_mark(mark) >> (8 * (3 - place)));
 }
 
-/* 'Raising m by one changes one bit, so one octet': the one of the four, in body octets 48 to 51, in which the two codes differ. */
-struct store store_of_raise(size_t count, size_t entry, uint32_t mark)
+/* 'Raising m by one changes one bit, so one octet': the one of the four, the last of the body, in which the two codes differ. */
+struct store store_of_raise(unsigned version, size_t count, size_t entry, uint32_t mark)
 {
     size_t place = 0;
     while (octet_of_code(mark, place) == octet_of_code(mark + 1, place)) {
         place++;
     }
-    struct store store = {2 + 4 * count + 52 * entry + 48 + place, octet_of_code(mark + 1, place)};
+    struct store store = {mark_position(version, count, entry) + place, octet_of_code(mark + 1, place)};
     return store;
 }
 
@@ -144,7 +168,7 @@ struct store store_of_raise(size_t count, size_t entry, uint32_t mark)
 void take_number(struct effect *effect, const struct table *table, size_t entry, uint32_t number)
 {
     for (uint32_t mark = table->entries[entry].mark; mark < number / 64; mark++) {
-        effect->stores[effect->store_count++] = store_of_raise(table->count, entry, mark);
+        effect->stores[effect->store_count++] = store_of_raise(table->version, table->count, entry, mark);
     }
     effect->sets_number = true;
     effect->entry = entry;
@@ -158,20 +182,34 @@ void carry_out_stores(const struct effect *effect, size_t j, uint8_t *image)
     }
 }
 
+/* Whether version, count, length and, where there is one, the count of keys fit one another; no other rule is asked for, also not that there are
+ * at most 64 keys. */
+static bool has_shape(const uint8_t *image, size_t length)
+{
+    if (length < 2 || image[0] < 1 || image[0] > 3 || image[1] > MOST_ENTRIES) {
+        return false;
+    }
+    size_t end = body_position(image[0], image[1], image[1]);
+    if (image[0] < 3) {
+        return length == end;
+    }
+    return length > end && length == key_position(image[1], image[end]);
+}
+
 uint32_t reading_raise(uint8_t *image, size_t length, unsigned entry, uint32_t number, uint32_t stores)
 {
-    if (length < 2 || (image[0] != 1 && image[0] != 2) || image[1] > MOST_ENTRIES || length != 2 + 56u * image[1] || entry >= image[1]) {
+    if (!has_shape(image, length) || entry >= image[1]) {
         return 0;
     }
     size_t count = image[1];
     uint32_t code = 0;
     for (size_t i = 0; i < 4; i++) {
-        code = code * 256 + image[2 + 4 * count + 52 * entry + 48 + i];
+        code = code * 256 + image[mark_position(image[0], count, entry) + i];
     }
     uint32_t mark = mark_of_code(code);
     uint32_t made = 0;
     for (; made < stores && mark < number / 64; made++, mark++) {
-        struct store store = store_of_raise(count, entry, mark);
+        struct store store = store_of_raise(image[0], count, entry, mark);
         image[store.position] = store.octet;
     }
     return made;
@@ -258,7 +296,7 @@ void reading_secure(const struct call *call, struct effect *effect)
     }
     uint32_t number = call->numbers[found.entry] + 1;
     uint8_t sequence[SEQUENCE_LENGTH];
-    sequence_of_number(number, sequence);
+    iv_of_number(&found.table.entries[found.entry], number, sequence);
     take_number(effect, &found.table, found.entry, number);
     effect->length = protect_frame(&found.table.entries[found.entry], &found.header, sequence, call->frame, call->frame_length,
                                    effect->result);
@@ -302,18 +340,25 @@ static bool mac_is_right(const struct association *association, const struct hea
     return memcmp(mac, parts->mac, MAC_LENGTH) == 0;
 }
 
-/* 'last < n, n at most last + window and n at most 4,294,967,295, over whole numbers with no wrap (an IV can hold more)' */
-static bool number_is_accepted(const struct parts *parts, uint32_t last, unsigned window, uint32_t *number)
+/* 'last < n, n at most last + window and n at most 4,294,967,295, over whole numbers with no wrap (an IV can hold more)'; of a version 3 IV,
+ * 'any other prefix gives 8', and the number stands behind it. */
+static bool number_is_accepted(const struct association *association, const struct parts *parts, uint32_t last, uint32_t *number)
 {
+    uint8_t prefix[SEQUENCE_LENGTH - NUMBER_LENGTH];
+    bool has_prefix = association->service == 2 && association->names_key;
+    prefix_of_iv(association, prefix);
+    if (has_prefix && memcmp(parts->number, prefix, sizeof prefix) != 0) {
+        return false;
+    }
     uint64_t n = 0;
-    for (size_t i = 0; i < parts->number_length; i++) {
+    for (size_t i = has_prefix ? sizeof prefix : 0; i < parts->number_length; i++) {
         n = n * 256 + parts->number[i];
         if (n > GREATEST_NUMBER) {
             return false; /* more octets only make it greater */
         }
     }
     *number = (uint32_t)n;
-    return last < n && n <= (uint64_t)last + window;
+    return last < n && n <= (uint64_t)last + association->window;
 }
 
 static unsigned answer_of_checking(const struct call *call, struct found *found, uint8_t *result, size_t *length, uint32_t *number)
@@ -347,7 +392,7 @@ static unsigned answer_of_checking(const struct call *call, struct found *found,
     if (!mac_is_right(association, &found->header, call->frame, &parts, result)) {
         return 7;
     }
-    if (!number_is_accepted(&parts, call->numbers[found->entry], association->window, number)) {
+    if (!number_is_accepted(association, &parts, call->numbers[found->entry], number)) {
         return 8;
     }
     *length = parts.data_length;

@@ -1,19 +1,20 @@
-/* Document 02, request 5: management commands. */
+/* Document 02, request 5: management commands; request 9: key activation, deactivation and inventory, and rekey that names a key. */
 #include "reading.h"
 
 #include <string.h>
 
 enum { TAG_LENGTH = 1, LENGTH_LENGTH = 2, FORM_LENGTH = TAG_LENGTH + LENGTH_LENGTH };
-enum { SPI_LENGTH = 2, ID_LENGTH = 2, WINDOW_LENGTH = 2, NAME_LENGTH = 4 };
+enum { SPI_LENGTH = 2, ID_LENGTH = 2, WINDOW_LENGTH = 2, NAME_LENGTH = 4, AMOUNT_LENGTH = 2, LISTED_LENGTH = ID_LENGTH + 1 };
 enum { UNKEYED = 0, KEYED = 1, OPERATIONAL = 2 };
-enum { AT_STATE = 3, AT_WINDOW = 8 }; /* of a body */
+enum { AT_STATE = 3, AT_WINDOW = 8, AT_KEY_ID = 16 }; /* of a body */
+enum { AT_KEY_STATE = 2 };                            /* of a key */
 enum { LEAST_WINDOW = 1, MOST_WINDOW = 1024, MOST_STEP = 1024 };
 
 static const uint64_t GREATEST_NUMBER = 4294967295u;
 
 /* What is known of each command before an image is: its tag, as the request writes it; the value's octets, where start has one name or more;
  * whether it has a reply, and of how many octets of value. */
-enum what { START, STOP, REKEY, EXPIRE, SET_NUMBER, SET_WINDOW, STATUS, READ_NUMBER, PING, COMMANDS };
+enum what { START, STOP, REKEY, EXPIRE, SET_NUMBER, SET_WINDOW, STATUS, READ_NUMBER, PING, ACTIVATION, DEACTIVATION, INVENTORY, COMMANDS };
 
 static const struct {
     const char *tag;
@@ -30,15 +31,19 @@ static const struct {
     [STATUS] = {"00011111", SPI_LENGTH, true, SPI_LENGTH + 1},
     [READ_NUMBER] = {"00010000", SPI_LENGTH, true, SPI_LENGTH + SEQUENCE_LENGTH},
     [PING] = {"00110001", 0, true, 0},
+    [ACTIVATION] = {"00000010", ID_LENGTH, false, 0},
+    [DEACTIVATION] = {"00000011", ID_LENGTH, false, 0},
+    [INVENTORY] = {"00000111", 2 * ID_LENGTH, true, AMOUNT_LENGTH}, /* and each key that it lists */
 };
 
-/* A command taken apart, and the entry that it is about. */
+/* A command taken apart, and the entry or the key that it is about. */
 struct command {
     enum what what;
     const uint8_t *value;
     size_t value_length;
     struct table table;
     size_t entry;
+    size_t key;
 };
 
 static unsigned number_of_digits(const char *digits)
@@ -187,8 +192,8 @@ static bool value_is_allowed(const struct call *call, const struct command *comm
     switch (command->what) {
     case START: /* 'start refuses (16) one outside 1 to 1,024' */
         return channels_are_own(command) && window_is_allowed(association->window);
-    case REKEY: /* 'its key ID is 0'; 'keeping key and mark', so that no number can be asked for */
-        return number_of_octets(rest, ID_LENGTH) == 0 && number_of_octets(rest + ID_LENGTH, 4) == 0
+    case REKEY: /* 'its key ID is 0', and in version 3 any; 'keeping .. mark', so that no number can be asked for */
+        return (association->names_key || number_of_octets(rest, ID_LENGTH) == 0) && number_of_octets(rest + ID_LENGTH, 4) == 0
             && number_of_octets(rest + ID_LENGTH + 4, 8) == 0;
     case SET_WINDOW:
         return window_is_allowed(number_of_octets(rest, WINDOW_LENGTH));
@@ -199,10 +204,78 @@ static bool value_is_allowed(const struct call *call, const struct command *comm
     }
 }
 
-/* ---- the order: 1, 2, 13, 14, 15, 16, 6 ---- */
+/* ---- 17 and 18 ---- */
+
+/* 'Rekey then names a key ID; rekey and start need it active': for start the ID is the body's. */
+static bool needs_key(const struct command *command, unsigned *id)
+{
+    const struct association *association = &command->table.entries[command->entry];
+    switch (command->what) {
+    case ACTIVATION:
+    case DEACTIVATION:
+        *id = (unsigned)number_of_octets(command->value, ID_LENGTH);
+        return true;
+    case REKEY:
+        *id = (unsigned)number_of_octets(command->value + SPI_LENGTH, ID_LENGTH);
+        return association->names_key;
+    case START:
+        *id = association->key_id;
+        return association->names_key;
+    default:
+        return false;
+    }
+}
+
+/* 'named by an operational body' */
+static bool is_in_use(const struct table *table, unsigned id)
+{
+    for (size_t i = 0; i < table->count; i++) {
+        if (table->entries[i].state == OPERATIONAL && table->entries[i].key_id == id) {
+            return true;
+        }
+    }
+    return false;
+}
+
+/* '18 key in the wrong state or, for deactivation, named by an operational body' */
+static bool key_is_in_state(const struct command *command)
+{
+    const struct key *key = &command->table.keys[command->key];
+    switch (command->what) {
+    case ACTIVATION:
+        return key->state == PRE_ACTIVE;
+    case DEACTIVATION:
+        return key->state == ACTIVE && !is_in_use(&command->table, key->id);
+    default:
+        return key->state == ACTIVE;
+    }
+}
+
+/* ---- the order: 1, 2, 13, 14, 15, 16, 17, 18, 6 ---- */
+
+static bool names_spi(enum what what)
+{
+    return what != PING && what != ACTIVATION && what != DEACTIVATION && what != INVENTORY;
+}
+
+/* The keys that an inventory lists, from the first ID to the last, both included; none where the first is above the last. */
+static bool is_listed(const struct command *command, const struct key *key)
+{
+    return number_of_octets(command->value, ID_LENGTH) <= key->id && key->id <= number_of_octets(command->value + ID_LENGTH, ID_LENGTH);
+}
+
+static size_t reply_value_length(const struct command *command)
+{
+    size_t length = known[command->what].reply_length;
+    for (size_t i = 0; command->what == INVENTORY && i < command->table.key_count; i++) {
+        length += is_listed(command, &command->table.keys[i]) ? LISTED_LENGTH : 0;
+    }
+    return length;
+}
 
 static unsigned answer_of_command(const struct call *call, struct command *command)
 {
+    unsigned id;
     if (!read_image(call->image, call->image_length, &command->table)) {
         return 1;
     }
@@ -212,7 +285,7 @@ static unsigned answer_of_command(const struct call *call, struct command *comma
     if (!has_form(call, command)) {
         return 13;
     }
-    if (command->what != PING) { /* 'One SPI a command', but for the one that has none */
+    if (names_spi(command->what)) { /* 'One SPI a command', but for those that have none */
         if (!find_spi(command)) {
             return 14;
         }
@@ -223,7 +296,16 @@ static unsigned answer_of_command(const struct call *call, struct command *comma
             return 16;
         }
     }
-    if (known[command->what].has_reply && call->output_length < FORM_LENGTH + known[command->what].reply_length) {
+    if (needs_key(command, &id)) {
+        command->key = find_key(&command->table, id);
+        if (command->key == command->table.key_count) {
+            return 17;
+        }
+        if (!key_is_in_state(command)) {
+            return 18;
+        }
+    }
+    if (known[command->what].has_reply && call->output_length < FORM_LENGTH + reply_value_length(command)) {
         return 6;
     }
     return 0;
@@ -233,36 +315,64 @@ static unsigned answer_of_command(const struct call *call, struct command *comma
 
 static void store(struct effect *effect, const struct command *command, size_t place, uint8_t octet)
 {
-    size_t body = 2 + 4 * command->table.count + 52 * command->entry;
+    size_t body = body_position(command->table.version, command->table.count, command->entry);
     struct store made = {body + place, octet};
     effect->stores[effect->store_count++] = made;
 }
 
-/* Tag with its first bit set, length, and for all but ping the SPI; gives where the rest of the value goes. */
+static void store_key_state(struct effect *effect, const struct command *command, uint8_t state)
+{
+    struct store made = {key_position(command->table.count, command->key) + AT_KEY_STATE, state};
+    effect->stores[effect->store_count++] = made;
+}
+
+/* Tag with its first bit set, and length; gives where the value goes. */
 static uint8_t *begin_reply(struct effect *effect, const struct command *command)
 {
-    size_t value_length = known[command->what].reply_length;
+    size_t value_length = reply_value_length(command);
     effect->result[0] = (uint8_t)(number_of_digits(known[command->what].tag) + 128);
     effect->result[1] = (uint8_t)(value_length / 256);
     effect->result[2] = (uint8_t)(value_length % 256);
     effect->length = FORM_LENGTH + value_length;
-    memcpy(effect->result + FORM_LENGTH, command->value, value_length == 0 ? 0 : SPI_LENGTH);
-    return effect->result + FORM_LENGTH + SPI_LENGTH;
+    return effect->result + FORM_LENGTH;
+}
+
+/* How many keys are listed, in 2 octets, and of each its ID and its state, in their order. */
+static void list_keys(const struct command *command, uint8_t *value)
+{
+    size_t listed = (reply_value_length(command) - AMOUNT_LENGTH) / LISTED_LENGTH;
+    *value++ = (uint8_t)(listed / 256);
+    *value++ = (uint8_t)(listed % 256);
+    for (size_t i = 0; i < command->table.key_count; i++) {
+        const struct key *key = &command->table.keys[i];
+        if (is_listed(command, key)) {
+            *value++ = (uint8_t)(key->id / 256);
+            *value++ = (uint8_t)(key->id % 256);
+            *value++ = (uint8_t)key->state;
+        }
+    }
 }
 
 static void reply(const struct call *call, const struct command *command, struct effect *effect)
 {
-    uint8_t *rest = begin_reply(effect, command);
+    uint8_t *value = begin_reply(effect, command);
+    if (command->what == INVENTORY) {
+        list_keys(command, value);
+    } else if (command->what != PING) {
+        memcpy(value, command->value, SPI_LENGTH);
+    }
     if (command->what == STATUS) {
-        *rest = (uint8_t)command->table.entries[command->entry].state;
+        value[SPI_LENGTH] = (uint8_t)command->table.entries[command->entry].state;
     } else if (command->what == READ_NUMBER) {
-        sequence_of_number(call->numbers[command->entry], rest);
+        sequence_of_number(call->numbers[command->entry], value + SPI_LENGTH);
     }
 }
 
 void reading_command(const struct call *call, struct effect *effect)
 {
     struct command command;
+    command.entry = 0;
+    command.key = 0;
     nothing_happens(effect);
     effect->answer = answer_of_command(call, &command);
     if (effect->answer != 0) {
@@ -273,8 +383,20 @@ void reading_command(const struct call *call, struct effect *effect)
         store(effect, &command, AT_STATE, OPERATIONAL);
         break;
     case STOP:
-    case REKEY:
         store(effect, &command, AT_STATE, KEYED);
+        break;
+    case REKEY: /* 'state octet stored last' */
+        if (command.table.entries[command.entry].names_key) {
+            store(effect, &command, AT_KEY_ID, command.value[SPI_LENGTH]);
+            store(effect, &command, AT_KEY_ID + 1, command.value[SPI_LENGTH + 1]);
+        }
+        store(effect, &command, AT_STATE, KEYED);
+        break;
+    case ACTIVATION:
+        store_key_state(effect, &command, ACTIVE);
+        break;
+    case DEACTIVATION:
+        store_key_state(effect, &command, DEACTIVATED);
         break;
     case EXPIRE:
         store(effect, &command, AT_STATE, UNKEYED);

@@ -5,7 +5,7 @@
 
 int main(void)
 {
-    uint8_t image[LARGEST_IMAGE + 1]; /* one octet more shows 'input over 1,794 octets', which no image has */
+    uint8_t image[LARGEST_IMAGE + 1]; /* one octet more shows an input over 'version 3's largest size', which no image has */
     char text[LISTING_ROOM];
     size_t length = fread(image, 1, sizeof image, stdin);
     if (ferror(stdin)) {

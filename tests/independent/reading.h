@@ -13,7 +13,8 @@
 enum {
     MOST_ENTRIES = 32,      /* 'count k, 0 to 32' */
     NUMBER_COUNT = 32,      /* 'There are 32' */
-    LARGEST_IMAGE = 1794,   /* 2 + 56 * 32 */
+    MOST_KEYS = 64,         /* document 02, request 9: 'up to 64 keys' */
+    LARGEST_IMAGE = 3079,   /* of version 3: 7 + 26 * 32 + 35 * 64; those of versions 1 and 2 end at 1,794 */
     LARGEST_FRAME = 2048,   /* of any kind */
     MASK_LENGTH = 6,
     KEY_LENGTH = 32,
@@ -32,28 +33,50 @@ struct association {
     unsigned state;
     unsigned spacecraft;
     unsigned channel; /* or, where it has a set, eight bits, 'the lowest bit for channel 0' */
-    bool has_set;     /* document 02, request 2: kind 3 in version 2; not laid out */
+    bool has_set;     /* document 02, request 2: kind 3 from version 2 on; not laid out */
     unsigned map;
     unsigned window;
     uint8_t mask[MASK_LENGTH];
-    uint8_t key[KEY_LENGTH];
+    bool names_key;   /* document 02, request 9: version 3, whose bodies 'hold a key ID in place of the key'; not laid out */
+    unsigned key_id;  /* where it names a key */
+    uint8_t key[KEY_LENGTH]; /* the body's own, or that which it names; zeros where there is none of that ID */
     uint32_t mark; /* as a number, not as its code */
 };
 
+/* Document 02, request 9: 'each an ID of 2 octets (rising), a state octet .. and 32 octets' */
+enum { PRE_ACTIVE = 0, ACTIVE = 1, DEACTIVATED = 2 };
+
+struct key {
+    unsigned id;
+    unsigned state;
+    uint8_t octets[KEY_LENGTH];
+};
+
 struct table {
-    unsigned version; /* 1 or 2 */
+    unsigned version; /* 1 to 3 */
     size_t count;
     struct association entries[MOST_ENTRIES];
+    size_t key_count; /* none below version 3 */
+    struct key keys[MOST_KEYS];
 };
 
 /* True where the image breaks no rule; the table then holds what it says. */
 bool read_image(const uint8_t *image, size_t length, struct table *table);
 
-/* Whether 52 octets are a body that breaks no rule of a version. */
+/* Whether 52 octets are a body that breaks no rule of a version, 1 or 2. */
 bool body_allowed(const uint8_t *body, unsigned version);
 
 /* The reverse: lays a table out, and gives the length of the image. Tests no rule, so that tests can break them. */
 size_t write_image(const struct table *table, uint8_t *image);
+
+/* The position of a body, of its mark, and of a key, in an image of this version and count. */
+size_t body_position(unsigned version, size_t count, size_t entry);
+size_t mark_position(unsigned version, size_t count, size_t entry);
+size_t key_position(size_t count, size_t key);
+
+/* The key of this ID, as its index, or the count of keys where there is none; and the keys of all entries anew, from what they name. */
+size_t find_key(const struct table *table, unsigned id);
+void resolve_keys(struct table *table);
 
 /* Whether frames of a channel match: it is the association's, or 'is in the set'. */
 bool serves_channel(const struct association *association, unsigned channel);
@@ -68,8 +91,8 @@ struct store {
     uint8_t octet;
 };
 
-/* The store that raises a mark by one, in an image of this count, for this entry. */
-struct store store_of_raise(size_t count, size_t entry, uint32_t mark);
+/* The store that raises a mark by one, in an image of this version and count, for this entry. */
+struct store store_of_raise(unsigned version, size_t count, size_t entry, uint32_t mark);
 
 /* 'Frames': what a header says, once it obeys its kind. */
 struct header {
@@ -100,8 +123,9 @@ void write_tc_length(uint8_t *frame, size_t length);
 /* The octets of the security header of a service. */
 size_t security_header_length(unsigned service);
 
-/* A number as the 12 octets of an IV. */
+/* A number in 12 octets, as commands have it and the IV below version 3; and as the IV of an association, whatever its version. */
 void sequence_of_number(uint64_t number, uint8_t sequence[SEQUENCE_LENGTH]);
+void iv_of_number(const struct association *association, uint64_t number, uint8_t sequence[SEQUENCE_LENGTH]);
 
 /* The secured frame for a clear one that obeys its kind, with any sequence number, and its length. */
 size_t protect_frame(const struct association *association, const struct header *header, const uint8_t sequence[SEQUENCE_LENGTH],
@@ -159,11 +183,11 @@ enum { LISTING_ROOM = 2048 };
 void listing_text(const uint8_t *image, size_t length, char text[LISTING_ROOM]);
 
 /* Document 02, request 12: what is made of a damaged image. */
-enum { SALVAGE_LINES_ROOM = 32 * 11 + 1, DROPPED = -1 };
+enum { LARGEST_SALVAGED = 1794, SALVAGE_LINES_ROOM = 32 * 11 + 1, DROPPED = -1 };
 
 struct salvage {
     bool is_refused;
-    uint8_t image[LARGEST_IMAGE];
+    uint8_t image[LARGEST_SALVAGED];
     size_t length;
     int became[MOST_ENTRIES];        /* of each entry that is counted, its new index, or DROPPED */
     char lines[SALVAGE_LINES_ROOM];  /* for standard error */

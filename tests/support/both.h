@@ -5,7 +5,7 @@
 #include "../independent/reading.h"
 #include "random.h"
 
-enum { IMAGE_ROOM = 2048, NUMBER_ROOM = 48, FRAME_ROOM = 4096 };
+enum { IMAGE_ROOM = 4096, NUMBER_ROOM = 48, FRAME_ROOM = 4096 };
 
 enum which_call { CALL_LOAD, CALL_SECURE, CALL_CHECK, CALL_COMMAND };
 

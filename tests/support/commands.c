@@ -5,8 +5,9 @@
 enum { FORM = 3, SPI = 2, ID = 2, NAME = 4, MOST_NAMES = 900 };
 
 const unsigned every_tag[TAG_COUNT] = {TAG_START, TAG_STOP, TAG_REKEY, TAG_EXPIRE, TAG_SET_NUMBER, TAG_SET_WINDOW, TAG_STATUS, TAG_READ_NUMBER,
-                                       TAG_PING};
-const char *const tag_names[TAG_COUNT] = {"start", "stop", "rekey", "expire", "set number", "set window", "status", "read number", "ping"};
+                                       TAG_PING, TAG_ACTIVATION, TAG_DEACTIVATION, TAG_INVENTORY};
+const char *const tag_names[TAG_COUNT] = {"start", "stop", "rekey", "expire", "set number", "set window", "status", "read number", "ping",
+                                          "activation", "deactivation", "inventory"};
 
 size_t index_of_tag(unsigned tag)
 {
@@ -27,6 +28,11 @@ size_t reply_length(unsigned tag)
     }
 }
 
+bool names_spi(unsigned tag)
+{
+    return tag != TAG_PING && tag != TAG_ACTIVATION && tag != TAG_DEACTIVATION && tag != TAG_INVENTORY;
+}
+
 static uint8_t *put(uint8_t *to, uint64_t value, size_t octets)
 {
     for (size_t i = octets; i > 0; i--, value /= 256) {
@@ -35,16 +41,63 @@ static uint8_t *put(uint8_t *to, uint64_t value, size_t octets)
     return to + octets;
 }
 
+/* Whether an operational association names a key. */
+static bool is_in_use(const struct table *table, unsigned id)
+{
+    bool is = false;
+    for (size_t i = 0; i < table->count; i++) {
+        is = is || (table->entries[i].state == 2 && table->entries[i].key_id == id);
+    }
+    return is;
+}
+
+/* The key that a command is about, in a state of which most allow the command; one that an operational association names stays active. */
+static unsigned suit_key(struct random *random, struct table *table, const struct association *association, unsigned tag)
+{
+    size_t named = find_key(table, association->key_id);
+    unsigned stray = random_below(random, 65536);
+    if (tag == TAG_START && random_percent(random, 20) && find_key(table, stray) == table->key_count) {
+        return stray;
+    }
+    if (table->key_count == 0) {
+        return association->key_id;
+    }
+    if (tag != TAG_START || random_percent(random, 40)) {
+        named = random_below(random, (uint32_t)table->key_count);
+    }
+    for (unsigned tries = 0; tag == TAG_DEACTIVATION && tries < 8 && is_in_use(table, table->keys[named].id); tries++) {
+        named = random_below(random, (uint32_t)table->key_count);
+    }
+    if (named == table->key_count) {
+        return association->key_id;
+    }
+    struct key *key = &table->keys[named];
+    if (!is_in_use(table, key->id)) {
+        unsigned asked = tag == TAG_ACTIVATION ? PRE_ACTIVE : ACTIVE;
+        key->state = random_percent(random, 60) ? asked : random_below(random, 3);
+    }
+    return key->id;
+}
+
 void suit_command(struct random *random, struct end *end, size_t entry, unsigned tag, struct association *association)
 {
     struct table table;
-    if (random_percent(random, 80)) {
+    unsigned key_id;
+    table_of(end, &table);
+    struct association *suited = &table.entries[entry];
+    if (random_percent(random, 80) && names_spi(tag)) {
         unsigned asked = tag == TAG_STOP ? 2 : tag == TAG_REKEY ? 0 : 1;
-        table_of(end, &table);
-        table.entries[entry].state = random_percent(random, 60) ? asked : random_below(random, 3);
-        any_window(random, &table.entries[entry]);
-        set_table(end, &table);
+        unsigned state = random_percent(random, 60) ? asked : random_below(random, 3);
+        size_t named = find_key(&table, suited->key_id);
+        bool may_serve = !suited->names_key || (named < table.key_count && table.keys[named].state == ACTIVE);
+        suited->state = state == 2 && !may_serve ? 1 : state;
+        any_window(random, suited);
     }
+    key_id = suit_key(random, &table, suited, tag);
+    if (tag == TAG_START && suited->state != 2) {
+        suited->key_id = key_id;
+    }
+    set_table(end, &table);
     if (random_percent(random, 8)) {
         set_number(end, entry, UINT32_MAX - RANDOM_OF(random, 0, 1, 1023, 1024, 1025, random_below(random, 1100)));
     }
@@ -53,6 +106,7 @@ void suit_command(struct random *random, struct end *end, size_t entry, unsigned
     }
     table_of(end, &table);
     *association = table.entries[entry];
+    association->key_id = key_id;
 }
 
 /* ---- commands of the right form ---- */
@@ -87,10 +141,17 @@ void put_set_number(struct input *input, unsigned spi, uint64_t number)
     put_command(input, TAG_SET_NUMBER, value, sizeof value);
 }
 
-void put_rekey(struct input *input, unsigned spi)
+void put_inventory(struct input *input, unsigned first, unsigned last)
+{
+    uint8_t value[2 * ID];
+    put(put(value, first, ID), last, ID);
+    put_command(input, TAG_INVENTORY, value, sizeof value);
+}
+
+void put_rekey(struct input *input, unsigned spi, unsigned key_id)
 {
     uint8_t value[SPI + ID + SEQUENCE_LENGTH];
-    put(put(value, spi, SPI), 0, ID + SEQUENCE_LENGTH);
+    put(put(put(value, spi, SPI), key_id, ID), 0, SEQUENCE_LENGTH);
     put_command(input, TAG_REKEY, value, sizeof value);
 }
 
@@ -142,10 +203,19 @@ static void make_set_number(struct random *random, struct input *input, unsigned
     }
 }
 
-static void make_rekey(struct random *random, struct input *input, unsigned spi)
+/* The ID of a key that a command is about, or one beside it. */
+static unsigned near_id(struct random *random, unsigned id)
 {
-    put_rekey(input, spi);
-    if (random_percent(random, 30)) {
+    if (random_percent(random, 85)) {
+        return id;
+    }
+    return RANDOM_OF(random, 0, 1, 65534, 65535, id + 1, id - 1, id ^ 0x100, id ^ 0x8000, id >> 8 | id << 8) & 0xFFFF;
+}
+
+static void make_rekey(struct random *random, struct input *input, unsigned spi, const struct association *association)
+{
+    put_rekey(input, spi, association->names_key ? near_id(random, association->key_id) : 0);
+    if (random_percent(random, 25)) {
         input->frame[FORM + SPI + random_below(random, ID + SEQUENCE_LENGTH)] = (uint8_t)RANDOM_OF(random, 1, 128, 255);
     }
 }
@@ -167,6 +237,19 @@ static uint32_t near_name(struct random *random, const struct association *assoc
     default:
         other.kind = random_between(random, 1, 4);
         return name_of_channel(&other, association->channel);
+    }
+}
+
+/* All keys, a few, one, or none: also from an ID to one below it. */
+static void make_inventory(struct random *random, struct input *input, unsigned id)
+{
+    unsigned other = random_percent(random, 50) ? RANDOM_OF(random, 0, 1, 65534, 65535) : random_below(random, 65536);
+    switch (random_below(random, 5)) {
+    case 0: put_inventory(input, 0, 65535); break;
+    case 1: put_inventory(input, id, id); break;
+    case 2: put_inventory(input, near_id(random, id), other); break;
+    case 3: put_inventory(input, other, near_id(random, id)); break;
+    default: put_inventory(input, 0, near_id(random, id)); break;
     }
 }
 
@@ -194,7 +277,7 @@ void make_command(struct random *random, struct input *input, unsigned tag, cons
         make_start(random, input, spi, association);
         break;
     case TAG_REKEY:
-        make_rekey(random, input, spi);
+        make_rekey(random, input, spi, association);
         break;
     case TAG_SET_NUMBER:
         make_set_number(random, input, spi, last);
@@ -204,6 +287,13 @@ void make_command(struct random *random, struct input *input, unsigned tag, cons
         break;
     case TAG_PING:
         put_command(input, tag, NULL, 0);
+        break;
+    case TAG_ACTIVATION:
+    case TAG_DEACTIVATION:
+        put_spi_alone(input, tag, near_id(random, association->key_id));
+        break;
+    case TAG_INVENTORY:
+        make_inventory(random, input, association->key_id);
         break;
     default:
         put_spi_alone(input, tag, spi);

@@ -1,4 +1,4 @@
-/* Random management commands (document 02, request 5), with a liking for limits. */
+/* Random management commands (document 02, requests 5 and 9), with a liking for limits. */
 #ifndef COMMANDS_H
 #define COMMANDS_H
 
@@ -6,6 +6,9 @@
 #include "worlds.h"
 
 enum tag {
+    TAG_ACTIVATION = 0x02,
+    TAG_DEACTIVATION = 0x03,
+    TAG_INVENTORY = 0x07,
     TAG_READ_NUMBER = 0x10,
     TAG_SET_WINDOW = 0x15,
     TAG_REKEY = 0x16,
@@ -17,7 +20,7 @@ enum tag {
     TAG_PING = 0x31
 };
 
-enum { TAG_COUNT = 9 };
+enum { TAG_COUNT = 12 };
 
 extern const unsigned every_tag[TAG_COUNT];
 extern const char *const tag_names[TAG_COUNT];
@@ -25,25 +28,31 @@ extern const char *const tag_names[TAG_COUNT];
 /* Where a tag stands among them, or TAG_COUNT. */
 size_t index_of_tag(unsigned tag);
 
-/* The octets of the reply to a command that is done; 0 where it has none. */
+/* The octets of the reply to a command that is done, where it is no inventory; 0 where it has none. */
 size_t reply_length(unsigned tag);
 
+/* Whether the command names an SPI. */
+bool names_spi(unsigned tag);
+
 /* Puts an entry into a state, mostly that which the command asks for, with a window that this allows, sometimes close to the last numbers
- * there are; and gives the association as it then is. */
+ * there are; in version 3 the key that the command is about into a state too, which is mostly active, or for activation pre-active. Gives
+ * the association as it then is, but for its key ID, which is that of the key that the command is to name. */
 void suit_command(struct random *random, struct end *end, size_t entry, unsigned tag, struct association *association);
 
-/* Makes the input's command: this tag for this association, of the right form, with values on either side of every limit. The last number
- * is that of the association's entry. */
+/* Makes the input's command: this tag for this association, and for the key that its key ID names, of the right form, with values on either side
+ * of every limit. The last number is that of the association's entry. */
 void make_command(struct random *random, struct input *input, unsigned tag, const struct association *association, uint32_t last);
 
 /* Makes the input's command of this tag from a value. */
 void put_command(struct input *input, unsigned tag, const uint8_t *value, size_t length);
 
-/* The value of a command about an SPI alone, with a window, or with a number, and of a start that names one channel. Each is put at once. */
+/* The value of a command about an SPI or a key alone, of an inventory, and with a window, or with a number, and of a start that names one channel.
+ * Each is put at once. */
 void put_spi_alone(struct input *input, unsigned tag, unsigned spi);
+void put_inventory(struct input *input, unsigned first, unsigned last);
 void put_set_window(struct input *input, unsigned spi, unsigned window);
 void put_set_number(struct input *input, unsigned spi, uint64_t number);
-void put_rekey(struct input *input, unsigned spi);
+void put_rekey(struct input *input, unsigned spi, unsigned key_id);
 void put_start(struct input *input, unsigned spi, uint32_t name);
 
 /* Another tag, another length with and without the length field put right, bits, octets at random. */

@@ -70,11 +70,11 @@ unsigned any_channel(struct random *random, const struct association *associatio
     return channel;
 }
 
-/* The channel octet of a body of this version; a TM body of version 2 has a set: one channel, all, or any. */
+/* The channel octet of a body of this version; a TM body from version 2 on has a set: one channel, all, or any. */
 static void any_channels(struct random *random, unsigned version, struct association *association)
 {
     unsigned greatest = association->kind == 3 ? 7 : 63;
-    association->has_set = version == 2 && association->kind == 3;
+    association->has_set = version >= 2 && association->kind == 3;
     if (association->has_set) {
         association->channel = random_percent(random, 40) ? RANDOM_OF(random, 1, 2, 128, 129, 255) : random_between(random, 1, 255);
     } else {
@@ -85,11 +85,11 @@ static void any_channels(struct random *random, unsigned version, struct associa
 /* The same association at the other end, whose image may have another version: a TM body there serves a channel of this one's. */
 static void meet_channels(struct random *random, unsigned version, struct association *association)
 {
-    if (association->kind != 3 || (association->has_set == (version == 2) && random_percent(random, 75))) {
+    if (association->kind != 3 || (association->has_set == (version >= 2) && random_percent(random, 75))) {
         return;
     }
     unsigned channel = any_channel(random, association);
-    association->has_set = version == 2;
+    association->has_set = version >= 2;
     association->channel = association->has_set ? random_below(random, 256) | (1u << channel) : channel;
 }
 
@@ -103,6 +103,8 @@ static void any_association(struct random *random, unsigned version, struct asso
                                                          : random_below(random, 1024);
     association->spacecraft &= greatest_spacecraft;
     any_channels(random, version, association);
+    association->names_key = version == 3;
+    association->key_id = 0;
     association->map = association->kind == 2 ? (random_percent(random, 40) ? 63 : random_below(random, 64)) : 0;
     any_key_and_mask(random, association);
     any_own_fields(random, association);
@@ -146,23 +148,156 @@ static void any_numbers(struct random *random, struct end *end, const struct tab
     }
 }
 
+/* ---- keys in one place ---- */
+
+/* What both ends know of keys: octets, of which the first are the associations' own. */
+struct pool {
+    size_t count;
+    uint8_t octets[MOST_KEYS][KEY_LENGTH];
+};
+
+/* The keys of the associations, and others up to a count that is often 1, 64 or just enough; some have the octets of another. */
+static void make_pool(struct random *random, const struct table *table, struct pool *pool)
+{
+    size_t least = table->count;
+    size_t count = random_percent(random, 60) ? RANDOM_OF(random, 0, 1, (uint32_t)least, (uint32_t)least + 1, MOST_KEYS, MOST_KEYS)
+                                              : random_below(random, MOST_KEYS + 1);
+    pool->count = count < least ? least : count;
+    for (size_t i = 0; i < pool->count; i++) {
+        random_octets(random, pool->octets[i], KEY_LENGTH);
+        if (i < least) {
+            memcpy(pool->octets[i], table->entries[i].key, KEY_LENGTH);
+        } else if (i > 0 && random_percent(random, 5)) {
+            memcpy(pool->octets[i], pool->octets[random_below(random, (uint32_t)i)], KEY_LENGTH);
+        }
+    }
+}
+
+/* IDs that rise from near 0, or end near 65,535, in small or great steps. */
+static void any_key_ids(struct random *random, struct table *table)
+{
+    unsigned step = RANDOM_OF(random, 1, 2, 300, 1000);
+    unsigned id = random_percent(random, 60) ? 0 : random_below(random, 300);
+    for (size_t i = 0; i < table->key_count; i++) {
+        id += i == 0 ? 0 : random_between(random, 1, step);
+        table->keys[i].id = id;
+    }
+    unsigned shift = random_percent(random, 50) ? 0 : 65535 - id;
+    for (size_t i = 0; i < table->key_count; i++) {
+        table->keys[i].id += shift;
+    }
+}
+
+static size_t find_octets(const struct table *table, const uint8_t octets[KEY_LENGTH])
+{
+    size_t i = 0;
+    while (i < table->key_count && memcmp(table->keys[i].octets, octets, KEY_LENGTH) != 0) {
+        i++;
+    }
+    return i;
+}
+
+/* Names a key that a body which is not operational may name: any, or one that is not there. */
+static void name_any_key(struct random *random, const struct table *table, struct association *association)
+{
+    if (table->key_count != 0 && random_percent(random, 60)) {
+        association->key_id = table->keys[random_below(random, (uint32_t)table->key_count)].id;
+    } else {
+        association->key_id = random_percent(random, 60) ? RANDOM_OF(random, 0, 1, 65534, 65535) : random_below(random, 65536);
+    }
+}
+
+/* The key part of an end of version 3: the pool in an order, with IDs and states of the end's own. Each association names the key that has its
+ * octets, which is active if the association is operational; one that is not may name another. */
+static void lay_out_keys(struct random *random, struct table *table, const struct pool *pool)
+{
+    size_t shift = pool->count == 0 ? 0 : random_below(random, (uint32_t)pool->count);
+    table->key_count = table->version == 3 ? pool->count : 0;
+    for (size_t i = 0; i < table->key_count; i++) {
+        memcpy(table->keys[i].octets, pool->octets[(i + shift) % pool->count], KEY_LENGTH);
+        table->keys[i].state = random_percent(random, 50) ? ACTIVE : random_below(random, 3);
+    }
+    any_key_ids(random, table);
+    for (size_t i = 0; i < table->count; i++) {
+        struct association *entry = &table->entries[i];
+        entry->names_key = table->version == 3;
+        if (!entry->names_key) {
+            continue;
+        }
+        struct key *named = &table->keys[find_octets(table, entry->key)];
+        entry->key_id = named->id;
+        if (entry->state == 2) {
+            named->state = ACTIVE;
+        } else if (random_percent(random, 30)) {
+            name_any_key(random, table, entry);
+        }
+    }
+}
+
+/* Some associations take the key of another. */
+static void share_keys(struct random *random, struct table *table)
+{
+    unsigned chance = RANDOM_OF(random, 0, 50, 100);
+    for (size_t i = 1; i < table->count; i++) {
+        if (random_percent(random, chance)) {
+            memcpy(table->entries[i].key, table->entries[random_below(random, (uint32_t)i)].key, KEY_LENGTH);
+        }
+    }
+}
+
+bool bring_to_service(struct random *random, struct table *table, size_t entry, const uint8_t key[KEY_LENGTH])
+{
+    struct association *association = &table->entries[entry];
+    if (association->names_key) {
+        size_t named = find_octets(table, key);
+        if (named == table->key_count) {
+            return false;
+        }
+        table->keys[named].state = ACTIVE;
+        association->key_id = table->keys[named].id;
+    }
+    memcpy(association->key, key, KEY_LENGTH);
+    if (association->state != 2) {
+        association->state = 2;
+        any_window(random, association);
+    }
+    return true;
+}
+
+bool make_iv_alike(const struct association *one, const struct association *other)
+{
+    return one->service == 1 || one->names_key == other->names_key;
+}
+
+/* ---- worlds ---- */
+
 void make_world(struct random *random, struct world *world, size_t count)
 {
     struct table table;
-    table.version = random_between(random, 1, 2);
+    struct pool pool;
+    unsigned versions[2];
+    versions[0] = random_percent(random, 50) ? 3 : random_between(random, 1, 2);
+    versions[1] = random_percent(random, 75) ? versions[0] : random_between(random, 1, 3);
+    table.version = versions[0];
     table.count = count;
     for (size_t i = 0; i < count; i++) {
         any_association(random, table.version, &table.entries[i]);
     }
     any_spis(random, &table);
+    if (versions[0] == 3 && versions[1] == 3) {
+        share_keys(random, &table);
+    }
+    make_pool(random, &table, &pool);
+    lay_out_keys(random, &table, &pool);
     set_table(&world->ends[0], &table);
     any_numbers(random, &world->ends[0], &table);
-    table.version = random_percent(random, 75) ? table.version : 3 - table.version;
+    table.version = versions[1];
     for (size_t i = 0; i < count; i++) {
         any_own_fields(random, &table.entries[i]);
         meet_channels(random, table.version, &table.entries[i]);
         table.entries[i].direction = 3 - table.entries[i].direction;
     }
+    lay_out_keys(random, &table, &pool);
     set_table(&world->ends[1], &table);
     any_numbers(random, &world->ends[1], &table);
 }
@@ -176,6 +311,31 @@ void set_number(struct end *end, size_t entry, uint32_t number)
     end->numbers[entry] = number;
 }
 
+/* An association that is to be anew names a key that is there, an active one where it is operational; where none is, it is at rest. */
+static void name_key_anew(struct random *random, const struct table *table, struct association *association)
+{
+    name_any_key(random, table, association);
+    for (size_t i = 0; association->state == 2 && i <= table->key_count; i++) {
+        size_t named = find_key(table, association->key_id);
+        if (named < table->key_count && table->keys[named].state == ACTIVE) {
+            return;
+        }
+        if (i < table->key_count) {
+            association->key_id = table->keys[i].id;
+        }
+    }
+    association->state = association->state == 2 ? 1 : association->state;
+}
+
+static void change_other_keys(struct random *random, struct table *table, unsigned kept_id)
+{
+    for (size_t i = 0; i < table->key_count; i++) {
+        if (table->keys[i].id != kept_id) {
+            random_octets(random, table->keys[i].octets, KEY_LENGTH);
+        }
+    }
+}
+
 void change_others(struct random *random, struct input *input, size_t kept)
 {
     struct table table;
@@ -185,8 +345,14 @@ void change_others(struct random *random, struct input *input, size_t kept)
     for (size_t i = 0; i < table.count; i++) {
         if (i != kept) {
             any_association(random, table.version, &table.entries[i]);
+            if (table.version == 3) {
+                name_key_anew(random, &table, &table.entries[i]);
+            }
             input->numbers[i] = 64 * table.entries[i].mark + random_below(random, 64);
         }
+    }
+    if (input->which != CALL_COMMAND) {
+        change_other_keys(random, &table, table.entries[kept].key_id);
     }
     write_image(&table, input->image);
 }

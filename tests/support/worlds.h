@@ -11,8 +11,10 @@ struct end {
     uint32_t numbers[NUMBER_COUNT];
 };
 
-/* Two ends with the same associations, direction 2 for 1; windows, states and marks are each end's own. Each image is of version 1 or 2;
- * where the versions differ, and sometimes where they do not, TM associations have other channels there, one of them the same. */
+/* Two ends with the same associations, direction 2 for 1; windows, states and marks are each end's own. Each image is of version 1 to 3;
+ * where the versions differ, and sometimes where they do not, TM associations have other channels there, one of them the same. In version 3
+ * both ends have the same key octets, under IDs of their own and in states of their own, more of them than are named in some worlds; where
+ * both are of version 3, associations may share a key. A body that is not operational may name any key, or one that is not there. */
 struct world {
     struct end ends[2];
 };
@@ -34,8 +36,16 @@ void any_window(struct random *random, struct association *association);
 /* A channel that an association serves. */
 unsigned any_channel(struct random *random, const struct association *association);
 
-/* Makes every association but one anew, with the same SPIs and with numbers that agree. The image breaks no rule, before and after. */
+/* Lets an association serve, with this key: its state, a window, and in version 3 the ID of a key with these octets, which becomes active.
+ * False, with nothing changed, where a key part holds no such key. */
+bool bring_to_service(struct random *random, struct table *table, size_t entry, const uint8_t key[KEY_LENGTH]);
+
+/* Makes every association but one anew, with the same SPIs and with numbers that agree; in version 3, for sending and checking, also the octets of
+ * every key but that association's. The image breaks no rule, before and after. */
 void change_others(struct random *random, struct input *input, size_t kept);
+
+/* Whether two associations make the IV of a number alike, if their service has one. */
+bool make_iv_alike(const struct association *one, const struct association *other);
 
 /* A clear frame that matches the association, of any of its channels, with this many octets of data, and its length; a check field at its end
  * if it is to have one, which is then right. Where a secondary header takes room in a long frame, there are fewer octets of data. */

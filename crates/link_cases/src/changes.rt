@@ -9,9 +9,9 @@ fn print_store(at: usize, old: u8, new: u8) {
     print_octet(b" to ", new);
 }
 
-pub(crate) fn print_stores(before: &[u8; 2048], after: &[u8; 2048]) {
+pub(crate) fn print_stores(before: &[u8; 4096], after: &[u8; 4096]) {
     let mut i: usize = 0;
-    while i < 2048 {
+    while i < 4096 {
         let old = before[i];
         let new = after[i];
         if old != new {

@@ -16,7 +16,7 @@ use state::step;
 // A proved loop has to end, and nothing says that the input does: the bound is a number of lines that it does not have.
 fn main() {
     let mut state = State {
-        image: [0; 2048],
+        image: [0; 4096],
         size: 0,
         numbers: Numbers { last: [0; 32] },
     };

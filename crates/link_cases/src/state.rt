@@ -14,14 +14,14 @@ use octets::octet_at;
 
 // The image is the first `size` octets; the others are 0.
 pub(crate) struct State {
-    pub image: [u8; 2048],
+    pub image: [u8; 4096],
     pub size: u16,
     pub numbers: Numbers,
 }
 
 // `image OCTETS`: the image from here on.
 fn with_image(line: &[u8], numbers: Numbers) -> State {
-    let mut image = [0u8; 2048];
+    let mut image = [0u8; 4096];
     let size = read_octets(field(line, 1), &mut image);
     State {
         image,

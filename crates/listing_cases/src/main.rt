@@ -16,16 +16,16 @@ fn print_listing(image: &[u8]) {
     print(text_in(listed, &text));
 }
 
-// Room for the octets that 33 entries would have, one entry more than an image may have.
+// Room for one key more than the longest image has.
 fn list(line: &[u8]) {
-    let mut image = [0u8; 1850];
+    let mut image = [0u8; 3114];
     let count = read_octets(line, &mut image);
     print_listing(&image[..count]);
 }
 
 // Whether there was a line.
 fn run_line() -> bool {
-    let mut line = [0u8; 3701];
+    let mut line = [0u8; 6229];
     let count = read_line(STDIN_FILENO, &mut line);
     if count == 0 {
         return false;

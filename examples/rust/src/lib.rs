@@ -39,6 +39,8 @@ pub enum Refusal {
     UnknownSpi = 14,
     WrongState = 15,
     ValueRefused = 16,
+    UnknownKey = 17,
+    WrongKeyState = 18,
 }
 
 impl Refusal {
@@ -65,6 +67,8 @@ impl Refusal {
             Refusal::UnknownSpi => "no association has the SPI",
             Refusal::WrongState => "state does not allow the command",
             Refusal::ValueRefused => "value not allowed",
+            Refusal::UnknownKey => "no key has the ID",
+            Refusal::WrongKeyState => "state of the key, or its use, does not allow the command",
         }
     }
 }
@@ -147,6 +151,8 @@ fn unpack(result: u64) -> Result<Done, Refusal> {
         14 => Refusal::UnknownSpi,
         15 => Refusal::WrongState,
         16 => Refusal::ValueRefused,
+        17 => Refusal::UnknownKey,
+        18 => Refusal::WrongKeyState,
         other => unreachable!("the module has no answer {other}"),
     };
     Err(refusal)

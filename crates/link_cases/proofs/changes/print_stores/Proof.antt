@@ -6,10 +6,10 @@ use Rattle.link_cases.proofs.changes.print_stores.Statement.{statement}
 use Rattle.link_cases.proofs.changes.print_stores.Tie as tie
 
 abbrev Inv-loop : tie.InvT-loop
-Inv-loop before after i₀ i = i ≤ 2048
+Inv-loop before after i₀ i = i ≤ 4096
 
 abbrev μ-loop : tie.MeasureT-loop
-μ-loop before after i₀ i = 2048 - i
+μ-loop before after i₀ i = 4096 - i
 
 pub print-stores-spec : {M : Type 1} → statement M
 print-stores-spec =
