@@ -51,6 +51,13 @@ keyAsked value = numberAt spiLength keyIdLength value
 abbrev pub keyNamed : List ℕ → ℕ
 keyNamed value = numberAt 0 keyIdLength value
 
+-- an inventory names a first ID and a last one
+abbrev pub firstNamed : List ℕ → ℕ
+firstNamed value = numberAt 0 keyIdLength value
+
+abbrev pub lastNamed : List ℕ → ℕ
+lastNamed value = numberAt keyIdLength keyIdLength value
+
 abbrev pub channelLength : ℕ
 channelLength = 4
 

@@ -1,7 +1,7 @@
 -- What holds of each procedure where it may be carried out at an entry: after any of its stores the image is managed, there are at most 16
 -- of them, and once all are made the numbers agree again. Only set number touches the mark and the number, and it raises both.
 -- Assumes nothing.
-use mathlib.Core.Path.{_≡_, refl}
+use mathlib.Core.Path.{_≡_, refl, sym}
 use mathlib.Core.Logic.{_≢_}
 use mathlib.Core.Bool.{Bool, true, false}
 use mathlib.Core.List.{List, [], _∷_}
@@ -242,6 +242,7 @@ does procedure.ReadNumber image last i value n r = nothing readNumber image last
 does procedure.Ping image last i value n r = never (sym n)
 does procedure.Activation image last i value n r = never (sym n)
 does procedure.Deactivation image last i value n r = never (sym n)
+does procedure.Inventory image last i value n r = never (sym n)
 
 -- one that names no association keeps the number, and stores nothing or the state of a key that it knows
 pub data Quiet (p : Procedure) (image : List ℕ) (e n : ℕ) (value : List ℕ) : Type 0 where
@@ -263,3 +264,4 @@ quiet procedure.Ping e image i n last value v k r = (nothing-stored refl, refl)
 quiet procedure.Activation e image i n last value v k r = (key-turned (keyNamed value) active refl (activates image v (keyNamed value) k r), refl)
 quiet procedure.Deactivation e image i n last value v k r =
     (key-turned (keyNamed value) deactivated refl (deactivates image v (keyNamed value) k r), refl)
+quiet procedure.Inventory e image i n last value v k r = (nothing-stored refl, refl)

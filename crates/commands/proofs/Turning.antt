@@ -27,8 +27,8 @@ use Rattle.keys.proofs.SameKeys.{same-index}
 use Rattle.image.specs.Image.{versionOf, countOf, layout, entryPlace, bodyAt, bodyOf, markIn, partAt, keyCount, keyWith, keyIn, keyIdIn}
 use Rattle.image.specs.Image.{imageSize, laidOut, entryOk, partSpi, lastOk, keyedOk, keysOk, validImage}
 use Rattle.image.proofs.Places.{before-part}
-use Rattle.image.proofs.ValidImages.{Valid, Keyed, ruled, valid, valid-laid, valid-ruled, valid-keyed}
-use Rattle.procedures.specs.Procedures.{hasKey, idleAt, unserved, freed}
+use Rattle.image.proofs.ValidImages.{ruled, valid, valid-laid, valid-ruled, valid-keyed}
+use Rattle.named_keys.specs.NamedKeys.{hasKey, idleAt, unserved, freed}
 
 pub record Turns (image : List ℕ) (id state : ℕ) : Type 0 where
   pub passed : validImage image ≡ true

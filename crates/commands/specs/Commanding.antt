@@ -1,5 +1,5 @@
--- Document 02, request 5: a command is decided, then carried out, as a frame is. What it leaves, from the image, the numbers and the output as
--- they were; and the image where power fails after j of its stores. The answer is the first that applies of 1, 2, 13, 14, 15, 16 and 6.
+-- Document 02, requests 5 and 9: a command is decided, then carried out, as a frame is. What it leaves, from the image, the numbers and the output as
+-- they were; and the image where power fails after j of its stores. The answer is the first that applies of 1, 2, 13, 14, 15, 16, 17, 18 and 6.
 -- Assumes nothing.
 use Prim.Native.Nat.{ℕ}
 use mathlib.Core.Bool.{Bool, true, false, cond, not}
@@ -55,7 +55,7 @@ procedureTests p image e last value room =
     ∷ (16, not (p .allows (versionOf image) (bodyOf image e) last value))
     ∷ (17, not (p .knows image e value))
     ∷ (18, not (p .ready image e value))
-    ∷ (6, ltb room (length (p .reply (spiNamed value) (stateOf (bodyOf image e)) last)))
+    ∷ (6, ltb room (length (p .reply image e last value)))
     ∷ []
 
 abbrev pub testsAt : Procedure → List ℕ → List ℕ → ℕ → List ℕ → ℕ → List Test
@@ -65,7 +65,7 @@ testsAt p image last e value room = procedureTests p image e (numberOf last e) v
 abbrev pub replyAt : ℕ → Procedure → List ℕ → List ℕ → ℕ → List ℕ → Reply
 replyAt answer p image last e value =
     let number = numberOf last e in
-    let result = p .reply (spiNamed value) (stateOf (bodyOf image e)) number in
+    let result = p .reply image e number value in
     record {
       answer = answer;
       entry = e;

@@ -5,13 +5,11 @@ use Prim.Native.Nat.{ℕ, _≤_}
 use mathlib.Core.Path.{_≡_}
 use mathlib.Core.List.{List}
 use lib.ListN.{length}
-use Rattle.bodies.specs.Body.{stateOf}
-use Rattle.image.specs.Image.{bodyOf}
 use Rattle.association.specs.declared.search.Found.the-variants as found
 use Rattle.judging.specs.Answers.{first}
 use Rattle.judging.specs.Replies.{Reply}
 use Rattle.judging.specs.Verdicts.{Refuses, Judgement}
-use Rattle.command_form.specs.Form.{frontLength, valueOf, spiNamed}
+use Rattle.command_form.specs.Form.{frontLength, valueOf}
 use Rattle.procedures.specs.Procedures.{procedureIs, procedureOf}
 use Rattle.procedures.specs.declared.procedure.Procedure as code
 use Rattle.commands.specs.Commanding.{entryNamed, addressTests, procedureTests, testsAt, replyAt}
@@ -38,11 +36,10 @@ replyUnder p image last e value room =
 abbrev pub procedureJudged : code.Procedure → List ℕ → ℕ → ℕ → List ℕ → ℕ → Judgement
 procedureJudged p image e last value room =
     let k = procedureIs p in
-    let body = bodyOf image e in
     record {
       answer = first (procedureTests k image e last value room);
       entry = e;
       number = k .number last value;
       stores = k .stores image e (k .number last value) value;
-      size = length (k .reply (spiNamed value) (stateOf body) last);
+      size = length (k .reply image e last value);
     }

@@ -1,7 +1,4 @@
 // A command under the entry that it names, 15, 16, 17, 18 and 6 in the paper's order. Nothing is changed.
-use bodies::state_of;
-use image::body_at;
-use image::version_of;
 use judging::Answer;
 use judging::Grant;
 use judging::Verdict;
@@ -11,19 +8,10 @@ use procedures::key_known;
 use procedures::key_ready;
 use procedures::new_number;
 use procedures::plan_of;
-use procedures::reply_size;
-ghost use mathlib.Core.Path.{_≡_};
-ghost use Rattle.bodies.specs.Body.{stateOf};
-ghost use Rattle.image.specs.Image.{bodyOf};
+use replies::reply_size;
+use replies::state_at;
 ghost use Rattle.judging.specs.Verdicts.{Judged};
 ghost use Rattle.commands.specs.Steps.{procedureJudged};
-
-// The state of an entry.
-pub(crate) fn state_at(image: &[u8], entry: u8) -> u8
-    ensures { λ r. ⌜ r ≡ stateOf (bodyOf (now (image .entry)) entry) ⌝ }
-{
-    state_of(image, version_of(image), body_at(image, entry))
-}
 
 pub fn decide(
     image: &[u8],
@@ -47,7 +35,7 @@ pub fn decide(
     if !key_ready(procedure, image, entry, value) {
         return Verdict::Refused(Answer::WrongKeyState);
     }
-    let size = reply_size(procedure);
+    let size = reply_size(procedure, image, value);
     if room < size {
         return Verdict::Refused(Answer::NoRoom);
     }

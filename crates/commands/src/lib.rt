@@ -1,4 +1,4 @@
-// Document 02, request 5: the command call, beside load, securing and checking. A command is decided, then carried out: its stores, the
+// Document 02, requests 5 and 9: the command call, beside load, securing and checking. A command is decided, then carried out: its stores, the
 // managed number, then the reply. The call is what its definition of specs/Commanding says, for every input.
 mod address;
 mod deciding;
@@ -6,9 +6,7 @@ mod deciding;
 use address::Address;
 use address::address_of;
 use command_form::FRONT;
-use command_form::spi_named;
 use deciding::decide;
-use deciding::state_at;
 use judging::Grant;
 use judging::Verdict;
 use link::Outcome;
@@ -18,7 +16,7 @@ use marks::make;
 use marks::make_all;
 use numbers::Numbers;
 use procedures::Procedure;
-use procedures::write_reply;
+use replies::write_reply;
 ghost use mathlib.Core.Path.{_≡_};
 ghost use lib.ListN.{length, set, take};
 ghost use Rattle.octets.specs.Output.{fronted};
@@ -29,22 +27,22 @@ ghost use Rattle.procedures.specs.Procedures.{procedureIs};
 ghost use Rattle.commands.specs.Commanding.{madeBy, commandReply, commanded};
 ghost use Rattle.commands.specs.Steps.{replyUnder};
 
-// The reply goes out behind the stores: `made` is how many of them were made, and has to be all.
+// The reply goes out behind the stores: `made` is how many of them were made, and has to be all. The image is the one that they left.
 fn respond(
     grant: Grant,
     made: u32,
     numbers: Numbers,
     procedure: Procedure,
-    spi: u16,
-    state: u8,
+    image: &[u8],
     last: u32,
+    value: &[u8],
     output: &mut [u8],
 ) -> Outcome
     requires { ⌜ made ≡ storesIn (grant .plan) ⌝ }
     ensures { λ r. ⌜ (reported (r .answer) ≡ granted (grant .size) (storesIn (grant .plan))) × (r .numbers .last ≡ set (numbers .last) (grant .entry) (grant .number)) ⌝ }
-    ensures { λ _. ⌜ now (output .exit) ≡ fronted (procedureIs procedure .reply spi state last) (now (output .entry)) ⌝ }
+    ensures { λ _. ⌜ now (output .exit) ≡ fronted (procedureIs procedure .reply (now (image .entry)) (grant .entry) last (now (value .entry))) (now (output .entry)) ⌝ }
 {
-    write_reply(procedure, spi, state, last, output);
+    write_reply(procedure, image, grant.entry, last, value, output);
     carried_out(grant, made, numbers)
 }
 
@@ -60,15 +58,13 @@ fn command_under(
     ensures { λ r. ⌜ leaving r (now (image .exit)) (now (output .exit)) ≡ left (replyUnder procedure (now (image .entry)) (numbers .last) entry (now (value .entry)) (length (now (output .entry)))) (now (image .entry)) (numbers .last) (now (output .entry)) ⌝ }
 {
     let last = numbers.of(entry);
-    let state = state_at(image, entry);
-    let spi = spi_named(value);
     let verdict = decide(image, entry, last, procedure, value, output.len());
     match verdict {
         Verdict::Refused(answer) => refused(answer, numbers),
         Verdict::Granted(grant) => {
             let plan = grant.plan;
             let made = make_all(image, plan);
-            respond(grant, made, numbers, procedure, spi, state, last, output)
+            respond(grant, made, numbers, procedure, image, last, value, output)
         }
     }
 }

@@ -8,10 +8,8 @@ use native.Mathlib.Omega.{arith}
 use lib.Dec.{eqb}
 use lib.ListN.{length}
 use Rattle.bodies.specs.Layout.{versionOne, versionTwo, versionThree, layoutOf}
-use Rattle.bodies.specs.declared.layout.Layout.{Layout}
 use Rattle.keys.specs.Keys.{mostKeys, partSize}
-use Rattle.keys.proofs.FoundKeys.{ValidKeys}
-use Rattle.image.specs.Image.{versionOf, countOf, layout, mostEntries, bodyPlace, partAt, keyCount, imageSize, longestImage, validImage}
+use Rattle.image.specs.Image.{versionOf, countOf, mostEntries, bodyPlace, partAt, keyCount, imageSize, longestImage, validImage}
 use Rattle.image.proofs.ValidImages.{Valid, valid}
 
 -- by layout, of an image with that many entries and keys

@@ -1,8 +1,8 @@
 -- Document 01, 'The image': what a valid image is known to be. Its rules, which the definition tests one behind the other, are facts with
 -- names; and its SPIs rise, so that no two entries have the same.
 -- Assumes nothing.
-use mathlib.Core.Path.{_≡_}
-use mathlib.Core.Bool.{Bool, true, _&&_}
+use mathlib.Core.Path.{_≡_, refl}
+use mathlib.Core.Bool.{Bool, true, false, cond, _&&_}
 use mathlib.Core.List.{List}
 use Prim.Native.Nat.{ℕ, zero, suc, _-_, _^_, _≤_, _<_}
 use native.Mathlib.Decide.{decLt}
@@ -10,14 +10,14 @@ use native.Mathlib.Omega.{arith}
 use borrow.Author.Tests.{eqb-true, eq-eqb, leb-true, ltb-true}
 use lib.Dec.{eqb·suc-zero}
 use lib.ListN.{length}
-use Rattle.octets.specs.Lists.{all}
+use Rattle.octets.specs.Lists.{octet, all}
 use Rattle.octets.proofs.Alls.{and-left, and-right, all-at}
 use Rattle.bodies.specs.Body.{stateOf, operational, bodyOk}
 use Rattle.bodies.specs.Layout.{versionOk}
 use Rattle.bodies.proofs.ValidBodies.{ValidBody, between, valid-body}
 use Rattle.image.specs.Image.{versionOf, countOf, spiOf, positionOf, spiBefore, bodyAt, bodyOf, markIn, mostEntries, imageSize}
 use Rattle.image.specs.Image.{layout, partAt, keyCount, keyIn, keyIdIn, laidOut, entryOk, partSpi, lastOk, keyedOk, keysOk, validImage}
-use Rattle.keys.specs.Keys.{active, keyPartOk}
+use Rattle.keys.specs.Keys.{active, mostKeys, keyPartOk}
 use Rattle.keys.proofs.FoundKeys.{ValidKeys, valid-keys}
 
 -- ---- the rules as facts
@@ -122,6 +122,15 @@ valid image e =
 pub mark-small : (image : List ℕ) → Valid image → (i : ℕ) → i < countOf image → markIn image i < 2 ^ 26
 unfolding markIn
 mark-small image v i h = v .entry i h .body .mark
+
+-- there are at most 64 keys; without a key part there is none
+pub keys-few : (image : List ℕ) → validImage image ≡ true → keyCount image ≤ mostKeys
+unfolding keyCount
+keys-few image e = of (layout image .keys) refl
+  where
+    of : (t : Bool) → layout image .keys ≡ t → cond t (octet image (partAt image)) 0 ≤ mostKeys
+    of true has = rw has at (valid image e .keyed has .keys .few)
+    of false none = omega arith
 
 -- ---- the SPIs rise, so none stands twice
 

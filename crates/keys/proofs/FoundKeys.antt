@@ -1,13 +1,13 @@
 -- What a search by ID finds: a key that has it, where there is one. In a key part that keeps the rules the IDs rise, so no other has it.
 -- Assumes nothing.
-use mathlib.Core.Path.{_≡_, refl, sym, _∙_}
+use mathlib.Core.Path.{_≡_, refl}
 use mathlib.Core.Bool.{Bool, true, false, cond}
 use mathlib.Core.List.{List}
 use Prim.Native.Nat.{ℕ, zero, suc, _+_, _-_, _≤_, _<_}
 use native.Mathlib.Decide.{decLt}
 use native.Mathlib.Omega.{arith}
-use borrow.Author.Tests.{eqb-true, eqb-false, eq-eqb, leb-true, ltb-true}
-use lib.Dec.{eqb, leb, ltb, eqb·suc-zero}
+use borrow.Author.Tests.{eqb-true, eqb-false, leb-true, ltb-true}
+use lib.Dec.{eqb, leb, eqb·suc-zero}
 use Rattle.octets.specs.Lists.{all}
 use Rattle.octets.proofs.Alls.{and-left, and-right, all-at}
 use Rattle.keys.specs.Keys.{mostKeys, deactivated, keyIdAt, keyStateAt, keyFrom, keyIndex, keyOk, keyPartOk}

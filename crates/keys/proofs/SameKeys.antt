@@ -1,13 +1,13 @@
 -- Of two images that hold the same octets from the place of a key part on, the keys are the same: each ID, state and key, what a search by
 -- ID finds, and whether the rules are kept.
 -- Assumes nothing.
-use mathlib.Core.Path.{_≡_, refl, ap, ap₂, _∙_}
+use mathlib.Core.Path.{_≡_, refl, ap}
 use mathlib.Core.Bool.{Bool, _&&_}
 use mathlib.Core.List.{List}
-use Prim.Native.Nat.{ℕ, zero, suc, _+_, _-_, _≤_, _<_}
+use Prim.Native.Nat.{ℕ, zero, suc, _+_, _-_, _≤_}
 use native.Mathlib.Omega.{arith}
-use lib.Dec.{eqb, leb, ltb}
-use Rattle.octets.specs.Lists.{octet, all}
+use lib.Dec.{leb}
+use Rattle.octets.specs.Lists.{octet}
 use Rattle.octets.proofs.Alls.{all-same}
 use Rattle.octets.proofs.Numbers.{numberAt-same}
 use Rattle.octets.proofs.Parts.{part-same}

@@ -1,3 +1,3 @@
 pub mod Calling
-pub mod ReplyOctets
+pub mod Replying
 pub mod ZeroNumbers

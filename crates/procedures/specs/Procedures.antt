@@ -5,20 +5,22 @@
 use Prim.Native.Nat.{ℕ, _+_, _-_, _%_}
 use mathlib.Core.Bool.{Bool, true, false, cond, not, _&&_, _||_}
 use mathlib.Core.List.{List, [], _∷_, _++_}
-use lib.Dec.{eqb, leb, ltb}
+use lib.Dec.{eqb, leb}
 use lib.ListN.{length}
-use Rattle.octets.specs.Lists.{octet, all}
+use Rattle.octets.specs.Lists.{octet}
 use Rattle.octets.specs.Numbers.{bytes}
 use Rattle.marks.specs.declared.plans.Store.{Store}
 use Rattle.bodies.specs.Body.{stateOf, windowOf, unkeyed, keyed, operational, windowFits}
 use Rattle.bodies.specs.Layout.{statePlace, windowPlace, layoutOf}
 use Rattle.keys.specs.Keys.{preActive, active, deactivated, keyStatePlace}
-use Rattle.image.specs.Image.{countOf, layout, bodyAt, bodyOf, partAt, keyCount, keyWith, keyIn, keyIdIn}
+use Rattle.image.specs.Image.{layout, bodyAt, bodyOf, partAt, keyCount, keyWith, keyIn, keyIdIn}
+use Rattle.named_keys.specs.NamedKeys.{hasKey, keyThere, keyActive, freed}
+use Rattle.inventory.specs.Inventory.{inventory}
 use Rattle.numbers.specs.Numbers.{accepts}
 use Rattle.numbers.specs.Stores.{storesFor}
 use Rattle.command_form.specs.Channels.{channelsRight}
-use Rattle.command_form.specs.Form.{tagOf, valueOf, measured, spiLength, windowLength, windowAsked, keyIdLength, keyAsked, keyNamed, channelLength}
-use Rattle.command_form.specs.Form.{numberLength, numberAsked, numberBehindKey, replyTo}
+use Rattle.command_form.specs.Form.{tagOf, valueOf, measured, spiLength, spiNamed, windowLength, windowAsked, keyIdLength, keyAsked, keyNamed}
+use Rattle.command_form.specs.Form.{firstNamed, lastNamed, channelLength, numberLength, numberAsked, numberBehindKey, replyTo}
 use Rattle.procedures.specs.declared.procedure.Called.{Called}
 use Rattle.procedures.specs.declared.procedure.Called.the-variants as calls
 use Rattle.procedures.specs.declared.procedure.Procedure as code
@@ -41,8 +43,8 @@ pub record Procedure : Type 0 where
   pub number : ℕ → List ℕ → ℕ
   -- from the image, the entry, that number and the value, the octet stores in their order
   pub stores : List ℕ → ℕ → ℕ → List ℕ → List Store
-  -- from the SPI, the state and the last number, every octet of the reply; none for no reply
-  pub reply : ℕ → ℕ → ℕ → List ℕ
+  -- from the image, the entry, the last number and the value, every octet of the reply; none for no reply
+  pub reply : List ℕ → ℕ → ℕ → List ℕ → List ℕ
 
 -- ---- what several have in common
 
@@ -64,35 +66,14 @@ asBefore last value = last
 abbrev noStores : List ℕ → ℕ → ℕ → List ℕ → List Store
 noStores image e n value = []
 
-abbrev noReply : ℕ → ℕ → ℕ → List ℕ
-noReply spi state last = []
+abbrev noReply : List ℕ → ℕ → ℕ → List ℕ → List ℕ
+noReply image e last value = []
 
 -- one octet of the body of entry e
 abbrev pub octetIn : List ℕ → ℕ → ℕ → ℕ → Store
 octetIn image e place value = record { at = bodyAt image e + place; value = value }
 
 -- ---- keys
-
-abbrev pub hasKey : List ℕ → ℕ → Bool
-hasKey image id = ltb (keyWith image id) (keyCount image)
-
--- where the version has a key part, the key of an association is there, and active; a version without one has it in the body
-abbrev pub keyThere : List ℕ → ℕ → Bool
-keyThere image id = not (layout image .keys) || hasKey image id
-
-abbrev pub keyActive : List ℕ → ℕ → Bool
-keyActive image id = not (layout image .keys) || keyIn image active id
-
--- no operational body names it
-abbrev pub idleAt : List ℕ → ℕ → ℕ → Bool
-idleAt image id i = not (eqb (stateOf (bodyOf image i)) operational && eqb (keyIdIn image i) id)
-
-unfoldable pub unserved : List ℕ → ℕ → Bool
-unserved image id = all (countOf image) (idleAt image id)
-
--- active, and no operational body names it
-abbrev pub freed : List ℕ → ℕ → Bool
-freed image id = keyIn image active id && unserved image id
 
 -- the octet of the state of a key
 abbrev pub keyStateIn : List ℕ → ℕ → ℕ → Store
@@ -132,9 +113,9 @@ moving tag sized from to allows =
       reply = noReply;
     }
 
--- a question: nothing is stored
-abbrev asking : ℕ → ℕ → Bool → (ℕ → ℕ → ℕ → List ℕ) → Procedure
-asking tag size names reply =
+-- a question: nothing is stored, and the reply tells a value
+abbrev asking : ℕ → ℕ → Bool → (List ℕ → ℕ → ℕ → List ℕ → List ℕ) → Procedure
+asking tag size names told =
     record {
       tag = tag;
       sized = exactly size;
@@ -145,7 +126,7 @@ asking tag size names reply =
       ready = noKey;
       number = asBefore;
       stores = noStores;
-      reply = reply;
+      reply = λ image e last value. replyTo tag (told image e last value);
     }
 
 -- ---- the states: unkeyed, keyed, operational
@@ -249,15 +230,21 @@ deactivation = turning 0x03 freed deactivated
 
 -- SPI; the reply is SPI and state
 abbrev pub status : Procedure
-status = asking 0x1F spiLength true (λ spi state last. replyTo 0x1F (bytes spiLength spi ++ (state ∷ [])))
+status = asking 0x1F spiLength true (λ image e last value. bytes spiLength (spiNamed value) ++ (stateOf (bodyOf image e) ∷ []))
 
 -- SPI; the reply is SPI and number
 abbrev pub readNumber : Procedure
-readNumber = asking 0x10 spiLength true (λ spi state last. replyTo 0x10 (bytes spiLength spi ++ bytes numberLength last))
+readNumber = asking 0x10 spiLength true (λ image e last value. bytes spiLength (spiNamed value) ++ bytes numberLength last)
 
 -- nothing; the reply is empty
 abbrev pub ping : Procedure
-ping = asking 0x31 0 false (λ spi state last. replyTo 0x31 [])
+ping = asking 0x31 0 false (λ image e last value. [])
+
+-- first key ID, last key ID; the reply is the inventory of the keys from the one to the other. An image without a key part has none
+abbrev pub keyInventory : Procedure
+keyInventory =
+    asking 0x07 (keyIdLength + keyIdLength) false
+    (λ image e last value. inventory image (partAt image) (keyCount image) (firstNamed value) (lastNamed value))
 
 -- ---- no procedure: no length is right
 
@@ -291,6 +278,7 @@ procedureIs procedure.ReadNumber = readNumber
 procedureIs procedure.Ping = ping
 procedureIs procedure.Activation = activation
 procedureIs procedure.Deactivation = deactivation
+procedureIs procedure.Inventory = keyInventory
 
 abbrev pub procedures : List code.Procedure
 procedures =
@@ -305,6 +293,7 @@ procedures =
     ∷ procedure.Ping
     ∷ procedure.Activation
     ∷ procedure.Deactivation
+    ∷ procedure.Inventory
     ∷ []
 
 -- the one of a list that has a tag

@@ -1,9 +1,8 @@
-// Document 02, requests 5 and 9: the procedures that a command may call: the key that it names, and what each procedure asks, stores and
-// replies. Nothing is changed but the output that a reply is written to.
+// Document 02, requests 5 and 9: the procedures that a command may call: what each asks, of the association and of the key that it names, and
+// what it stores. Nothing is changed. Crate `replies` has what it replies.
 mod named;
 mod plans;
 mod procedure;
-mod replies;
 mod tags;
 mod values;
 
@@ -12,8 +11,6 @@ pub use named::key_ready;
 pub use plans::plan_of;
 pub use procedure::Called;
 pub use procedure::Procedure;
-pub use replies::reply_size;
-pub use replies::write_reply;
 pub use tags::called_by;
 pub use values::allowed;
 pub use values::new_number;

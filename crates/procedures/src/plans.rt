@@ -25,7 +25,7 @@ ghost use mathlib.Core.List.{[], _∷_};
 ghost use Prim.Native.Nat.{_<_};
 ghost use Rattle.marks.specs.Stores.{storesOf};
 ghost use Rattle.bodies.specs.Layout.{statePlace, mostBody};
-ghost use Rattle.procedures.specs.Form.{keyNamed};
+ghost use Rattle.command_form.specs.Form.{keyNamed};
 ghost use Rattle.procedures.specs.Procedures.{rekey, setWindow, octetIn, keyStateIn, procedureIs};
 
 // One octet of the body of an entry.
@@ -97,5 +97,6 @@ pub fn plan_of(procedure: Procedure, image: &[u8], entry: u8, number: u32, value
         Procedure::Ping => Plan::Nothing,
         Procedure::Activation => turn_to(image, value, ACTIVE),
         Procedure::Deactivation => turn_to(image, value, DEACTIVATED),
+        Procedure::Inventory => Plan::Nothing,
     }
 }

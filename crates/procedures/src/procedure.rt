@@ -21,6 +21,7 @@ pub enum Procedure {
     Ping,
     Activation,
     Deactivation,
+    Inventory,
 }
 
 pub enum Called {
@@ -44,6 +45,7 @@ pub(crate) fn with_tag(tag: u8) -> Called
         0x31 => Called::Procedure(Procedure::Ping),
         0x02 => Called::Procedure(Procedure::Activation),
         0x03 => Called::Procedure(Procedure::Deactivation),
+        0x07 => Called::Procedure(Procedure::Inventory),
         _ => Called::Nothing,
     }
 }
@@ -79,6 +81,7 @@ impl Procedure {
             Procedure::Ping => n == 0,
             Procedure::Activation => n == KEY_ID,
             Procedure::Deactivation => n == KEY_ID,
+            Procedure::Inventory => n == KEY_ID + KEY_ID,
         }
     }
 
@@ -97,6 +100,7 @@ impl Procedure {
             Procedure::Ping => false,
             Procedure::Activation => false,
             Procedure::Deactivation => false,
+            Procedure::Inventory => false,
         }
     }
 
@@ -115,6 +119,7 @@ impl Procedure {
             Procedure::Ping => true,
             Procedure::Activation => true,
             Procedure::Deactivation => true,
+            Procedure::Inventory => true,
         }
     }
 }

@@ -17,7 +17,7 @@ ghost use mathlib.Core.List.{[]};
 ghost use lib.Dec.{eqb};
 ghost use Rattle.image.specs.Image.{versionOf, bodyOf};
 ghost use Rattle.command_form.specs.Form.{numberBehindKey};
-ghost use Rattle.procedures.specs.Procedures.{start, setNumber, procedureIs};
+ghost use Rattle.procedures.specs.Procedures.{start, rekey, setNumber, procedureIs};
 ghost use Rattle.procedures.specs.Steps.{Renumbered};
 
 // The most by which a number may be set higher.
@@ -69,6 +69,7 @@ pub fn allowed(procedure: Procedure, image: &[u8], entry: u8, last: u32, value: 
         Procedure::Ping => true,
         Procedure::Activation => true,
         Procedure::Deactivation => true,
+        Procedure::Inventory => true,
     }
 }
 
@@ -94,5 +95,6 @@ pub fn new_number(procedure: Procedure, last: u32, value: &[u8]) -> u32
         Procedure::Ping => last,
         Procedure::Activation => last,
         Procedure::Deactivation => last,
+        Procedure::Inventory => last,
     }
 }

@@ -30,10 +30,9 @@ use Rattle.frame.proofs.Room.{Obeys, obeyed, length-header}
 use Rattle.association.specs.declared.held.Held.{Held}
 use Rattle.services.specs.SecurityHeader.{serviceIn, securityLength, fieldUnder, fieldFor, numberUnder, numberFrom}
 use Rattle.services.specs.Services.{service as numbered}
-use Rattle.services.proofs.Fields.{alike-field}
 use Rattle.protection.specs.Protection.{coveredBefore, securedLength, securedFrame}
 use Rattle.protection.specs.Protection.{coveredIn, spiIn, fieldIn, textIn, numberIn, macRight, clearData, clearLength}
-use Rattle.services.proofs.ServiceLaws.{Lawful, lawful, length-field, number-back}
+use Rattle.services.proofs.ServiceLaws.{Lawful, lawful, length-field, number-back, alike-field}
 
 -- ---- where a reader finds the number, in any frame, and how long the clear data is
 

@@ -3,12 +3,10 @@
 use Prim.Native.Nat.{ℕ, _+_, _-_, _*_, _/_, _%_, _^_, _<_}
 use mathlib.Core.Path.{_≡_, refl, sym, ap, ap₂, _∙_}
 use mathlib.Core.Logic.{_≢_}
-use mathlib.Core.Bool.{Bool, true, false, cond}
 use mathlib.Core.List.{List, _++_}
 use native.Mathlib.Nat.{div-one, zero-add}
 use native.Mathlib.Omega.{arith}
-use borrow.Author.Tests.{eqb-true, eq-eqb, ne-eqb}
-use lib.Dec.{eqb}
+use borrow.Author.Tests.{eq-eqb, ne-eqb}
 use lib.ListN.{set, drop, replicate}
 use lib.Seq.{drop-drop}
 use Rattle.octets.specs.Numbers.{number, numberAt, bytes}
@@ -74,14 +72,3 @@ module _ (naming : ℕ) (small : naming < 65536) (s : List ℕ) where
 pub read-short : (naming : ℕ) (field : List ℕ) → numberUnder authentication naming field ≡ number 4 field
 unfolding numberUnder number
 read-short naming field = refl
-
--- what names the association shows in the field of service 2 alone
-pub alike-field : (number naming other n : ℕ) → (number ≡ 2 → naming ≡ other)
-    → fieldUnder (service number) naming n ≡ fieldUnder (service number) other n
-unfolding service bytes
-alike-field number naming other n same = of (eqb number 2) refl
-  where
-    of : (t : Bool) → eqb number 2 ≡ t
-        → fieldUnder (cond t authenticatedEncryption authentication) naming n ≡ fieldUnder (cond t authenticatedEncryption authentication) other n
-    of true e = ap (λ (x : ℕ). fieldUnder authenticatedEncryption x n) (same (eqb-true number 2 e))
-    of false e = refl

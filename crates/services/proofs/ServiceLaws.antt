@@ -3,9 +3,11 @@
 -- Assumes nothing.
 use Prim.Native.Nat.{ℕ, _-_, _^_, _≤_, _<_}
 use mathlib.Core.Path.{_≡_, refl, ap, _∙_}
+use mathlib.Core.Bool.{Bool, true, false, cond}
 use mathlib.Core.List.{List, _++_}
 use native.Mathlib.Omega.{arith}
-use borrow.Author.Tests.{eq-eqb}
+use borrow.Author.Tests.{eqb-true, eq-eqb}
+use lib.Dec.{eqb}
 use lib.ListN.{length, length-append}
 use lib.Seq.{drop-at}
 use Rattle.octets.specs.Lists.{Octets}
@@ -85,3 +87,14 @@ module _ (s : Service) (l : Lawful s) (naming n : ℕ) where
       simp named
       (ap (number (s .field - s .named)) (drop-at opening rest (s .named) (length-bytes (s .named) naming))
       ∙ number-bytes (s .field - s .named) n (l .holds n h))
+
+-- what names the association shows in the field of service 2 alone
+pub alike-field : (number naming other n : ℕ) → (number ≡ 2 → naming ≡ other)
+    → fieldUnder (service number) naming n ≡ fieldUnder (service number) other n
+unfolding service bytes
+alike-field number naming other n same = of (eqb number 2) refl
+  where
+    of : (t : Bool) → eqb number 2 ≡ t
+        → fieldUnder (cond t authenticatedEncryption authentication) naming n ≡ fieldUnder (cond t authenticatedEncryption authentication) other n
+    of true e = ap (λ (x : ℕ). fieldUnder authenticatedEncryption x n) (same (eqb-true number 2 e))
+    of false e = refl

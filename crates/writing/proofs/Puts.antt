@@ -3,10 +3,11 @@
 use mathlib.Core.Path.{_≡_, _∙_, refl, ap, sym}
 use mathlib.Core.List.{List, [], _∷_, _++_, append-nil, append-assoc}
 use Prim.Native.Nat.{ℕ, _+_, _≤_, _<_}
+use native.Mathlib.Nat.{zero-add}
 use native.Mathlib.Numerals.{add-one}
 use native.Mathlib.Omega.{arith}
 use borrow.Author.Tests.{le-leb, lt-leb}
-use lib.ListN.{length, set, take, drop, length-append, length-set}
+use lib.ListN.{length, set, take, drop, length-append, length-set, length-take, take-append-drop}
 use lib.Seq.{take-suc, take-suc-set, drop-set-lt, drop-drop}
 use Rattle.octets.specs.Lists.{octet}
 use Rattle.octets.specs.Output.{fronted}
@@ -49,3 +50,9 @@ pub all-written : (text out : List ℕ) → length text ≤ length out
     → (answer.Text (length text) ≡ writtenTo text out) × (text ++ drop (length text) out ≡ fronted text out)
 unfolding writtenTo fronted
 all-written text out room = (rw (le-leb (length text) (length out) room), rw (le-leb (length text) (length out) room))
+
+-- a text that was put at the front
+pub put-fronted : {out text after : List ℕ} {behind : ℕ} → Put out 0 text after behind → after ≡ fronted text out
+put-fronted {out} {text} {after} {behind} p =
+    let fits : length text ≤ length out = omega (arith, simp length-take at (ap length (p .front))) in
+    sym (take-append-drop behind after) ∙ rw (p .front, p .rest, p .place, zero-add (length text)) (all-written text out fits .1)

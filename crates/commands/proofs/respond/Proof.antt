@@ -9,7 +9,7 @@ use Rattle.commands.proofs.respond.Tie as tie
 returns : tie.Need-returns
 returns c =
     let wrote = c .before .before .before in
-    let s = wrote .before .before .before in
+    let s = wrote .before .before .before .before .before in
     let told = c .carried-out .ensures in
     ((told .0 ∙ ap (granted (s .args .grant .size)) (s .pre), told .1), wrote .write-reply .ensures)
 

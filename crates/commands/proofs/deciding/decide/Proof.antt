@@ -13,7 +13,6 @@ use Rattle.judging.specs.Answers.{Test, first}
 use Rattle.judging.specs.declared.answers.Answer.the-variants as answer
 use Rattle.judging.proofs.Admitting.{refuses}
 use Rattle.judging.proofs.First.{none-left, applies, passes}
-use Rattle.command_form.specs.Form.{spiNamed}
 use Rattle.procedures.specs.Procedures.{Procedure, procedureIs}
 use Rattle.commands.specs.Commanding.{procedureTests}
 use borrow.Author.Needs.{needs}
@@ -58,8 +57,11 @@ past-18 c = past-17 (c .before .before) ∙ passes 18 _ _ (ap not (sym (c .befor
 -- ---- 6
 
 sized : (c : tie.After-reply-size) → let d = c .before .before .before .before .before .before .before .before in
-    c .reply-size .result ≡ length (procedure d .reply (spiNamed (start d .args .value .now)) (stateOf (body d)) (start d .args .last))
-sized c = let d = c .before .before .before .before .before .before .before .before in c .reply-size .ensures (spiNamed (start d .args .value .now)) (stateOf (body d)) (start d .args .last)
+    let g = start d .args in
+    c .reply-size .result ≡ length (procedure d .reply (g .image .now) (g .entry) (g .last) (g .value .now))
+sized c =
+    let g = start (c .before .before .before .before .before .before .before .before) .args in
+    c .reply-size .ensures (g .entry) (g .last)
 
 past-6 : (c : tie.Else5) → let d = c .before .before .before .before .before .before .before .before .before in first (tests d) ≡ 0
 past-6 c =

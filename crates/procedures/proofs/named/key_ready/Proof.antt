@@ -14,7 +14,7 @@ returns-10 : tie.Need-returns-10
 returns-10 c = rw (c .before .before .enum-told10 .given .1, ← c .before .two-at2 .ensures) (c .key-in .ensures)
 
 returns-11 : tie.Need-returns-11
-returns-11 c = rw (c .before .before .enum-told11 .given .1, ← c .before .two-at3 .ensures) (c .key-unserved .ensures)
+returns-11 c = rw (c .before .before .enum-told11 .given .1, ← c .before .two-at3 .ensures) (c .key-freed .ensures)
 
 pub key-ready-spec : {M : Type 1} → statement M
-key-ready-spec = tie.close (tie.spec (λ c. search needs) (λ c κs. search needs) (λ c κs. search needs) (λ c. search needs) (λ c. search needs) (λ c κs. search needs) (λ c κs. search needs) (λ c. search needs) (λ c. search needs) (λ c. search needs) (λ c. search needs) (λ c. search needs) (λ c. search needs) (λ c. search needs) (λ c κs. search needs) (λ c κs. search needs) (λ c. search needs) (λ c κs. search needs) (λ c κs. search needs) returns (λ c. search needs) returns-3 (λ c. search needs) (λ c. search needs) (λ c. search needs) (λ c. search needs) (λ c. search needs) (λ c. search needs) returns-10 returns-11)
+key-ready-spec = tie.close (tie.spec (λ c. search needs) (λ c κs. search needs) (λ c κs. search needs) (λ c. search needs) (λ c. search needs) (λ c κs. search needs) (λ c κs. search needs) (λ c. search needs) (λ c. search needs) (λ c. search needs) (λ c. search needs) (λ c. search needs) (λ c. search needs) (λ c. search needs) (λ c κs. search needs) (λ c κs. search needs) (λ c. search needs) (λ c κs. search needs) (λ c κs. search needs) (λ c. search needs) returns (λ c. search needs) returns-3 (λ c. search needs) (λ c. search needs) (λ c. search needs) (λ c. search needs) (λ c. search needs) (λ c. search needs) returns-10 returns-11 (λ c. search needs))

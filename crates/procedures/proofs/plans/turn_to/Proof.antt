@@ -6,7 +6,6 @@ use Prim.Native.Nat.{ℕ}
 use Rattle.keys.specs.Keys.{keyStatePlace}
 use Rattle.image.specs.Image.{keyWith}
 use Rattle.marks.specs.Stores.{steps}
-use Rattle.marks.specs.declared.plans.Store.{Store}
 use borrow.Author.Needs.{needs}
 use Rattle.procedures.proofs.plans.turn_to.Statement.{statement}
 use Rattle.procedures.proofs.plans.turn_to.Tie as tie

@@ -54,23 +54,28 @@ returns-11 c = let e : c .before .args .tag ≡ 3 = omega arith in ap (λ (t : �
 
 returns-12 : tie.Need-returns-12
 unfolding withTag
-returns-12 c =
+returns-12 c = let e : c .before .args .tag ≡ 7 = omega arith in ap (λ (t : ℕ). withTag t procedures) (sym e)
+
+returns-13 : tie.Need-returns-13
+unfolding withTag
+returns-13 c =
     let t = c .before .args .tag in
     simp (
-      ne-eqb t 27 (λ e. c .match .rest .0 .0 .0 .0 .0 .0 .0 .0 .0 .0 .1 e),
-      ne-eqb t 30 (λ e. c .match .rest .0 .0 .0 .0 .0 .0 .0 .0 .0 .1 e),
-      ne-eqb t 22 (λ e. c .match .rest .0 .0 .0 .0 .0 .0 .0 .0 .1 e),
-      ne-eqb t 25 (λ e. c .match .rest .0 .0 .0 .0 .0 .0 .0 .1 e),
-      ne-eqb t 26 (λ e. c .match .rest .0 .0 .0 .0 .0 .0 .1 e),
-      ne-eqb t 21 (λ e. c .match .rest .0 .0 .0 .0 .0 .1 e),
-      ne-eqb t 31 (λ e. c .match .rest .0 .0 .0 .0 .1 e),
-      ne-eqb t 16 (λ e. c .match .rest .0 .0 .0 .1 e),
-      ne-eqb t 49 (λ e. c .match .rest .0 .0 .1 e),
-      ne-eqb t 2 (λ e. c .match .rest .0 .1 e),
-      ne-eqb t 3 (λ e. c .match .rest .1 e),
+      ne-eqb t 27 (λ e. c .match .rest .0 .0 .0 .0 .0 .0 .0 .0 .0 .0 .0 .1 e),
+      ne-eqb t 30 (λ e. c .match .rest .0 .0 .0 .0 .0 .0 .0 .0 .0 .0 .1 e),
+      ne-eqb t 22 (λ e. c .match .rest .0 .0 .0 .0 .0 .0 .0 .0 .0 .1 e),
+      ne-eqb t 25 (λ e. c .match .rest .0 .0 .0 .0 .0 .0 .0 .0 .1 e),
+      ne-eqb t 26 (λ e. c .match .rest .0 .0 .0 .0 .0 .0 .0 .1 e),
+      ne-eqb t 21 (λ e. c .match .rest .0 .0 .0 .0 .0 .0 .1 e),
+      ne-eqb t 31 (λ e. c .match .rest .0 .0 .0 .0 .0 .1 e),
+      ne-eqb t 16 (λ e. c .match .rest .0 .0 .0 .0 .1 e),
+      ne-eqb t 49 (λ e. c .match .rest .0 .0 .0 .1 e),
+      ne-eqb t 2 (λ e. c .match .rest .0 .0 .1 e),
+      ne-eqb t 3 (λ e. c .match .rest .0 .1 e),
+      ne-eqb t 7 (λ e. c .match .rest .1 e),
     )
 
 pub with-tag-spec : {M : Type 1} → statement M
 with-tag-spec =
     tie.close
-    (tie.spec returns returns-2 returns-3 returns-4 returns-5 returns-6 returns-7 returns-8 returns-9 returns-10 returns-11 returns-12)
+    (tie.spec returns returns-2 returns-3 returns-4 returns-5 returns-6 returns-7 returns-8 returns-9 returns-10 returns-11 returns-12 returns-13)
