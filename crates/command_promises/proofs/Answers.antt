@@ -33,11 +33,11 @@ use Rattle.procedures.proofs.Calling.{called-so, called-parts, called-measured,
 use Rattle.commands.specs.Commanding.{callsNone, entryNamed, isNothing, testsAt, commandReply, commanded}
 use Rattle.commands.proofs.Done.{spi-found, spi-missing}
 use Rattle.promises.specs.Answers.{Rules, rule, noMore}
-use Rattle.promises.specs.Images.{stateAt, lastAt, ImageRules}
+use Rattle.promises.specs.Images.{stateAt, lastAt, BodyRules, ImageRules}
 use Rattle.promises.proofs.Answers.{Numbered, exactly, step, next-rule, last-done, differ}
 use Rattle.promises.proofs.Fields.{state-at}
 use Rattle.promises.proofs.Valids.{rules-kept, rules-valid, agreement, agreement-tested}
-use Rattle.command_promises.specs.Answers.{rowIn, FormRules, commandRules, CommandAnswers}
+use Rattle.command_promises.specs.Answers.{rowIn, FormRules, About, commandRules, CommandAnswers}
 use Rattle.command_promises.specs.Rows.{Names}
 use Rattle.command_promises.proofs.Refusals.{command-refusals}
 use Rattle.command_promises.proofs.Rows.{Fits, row-fits, no-size}
@@ -87,28 +87,6 @@ module _ (command : List ℕ) where
 
 -- ---- 14: the entry
 
-named-ping : (p : code.Procedure) → procedureIs p .names ≡ false → procedureIs p .tag ≡ 0x31
-named-ping procedure.Start e = let z : _≡_ {A = ℕ} 0 1 = cc in absurd (omega arith)
-named-ping procedure.Stop e = let z : _≡_ {A = ℕ} 0 1 = cc in absurd (omega arith)
-named-ping procedure.Rekey e = let z : _≡_ {A = ℕ} 0 1 = cc in absurd (omega arith)
-named-ping procedure.Expire e = let z : _≡_ {A = ℕ} 0 1 = cc in absurd (omega arith)
-named-ping procedure.SetNumber e = let z : _≡_ {A = ℕ} 0 1 = cc in absurd (omega arith)
-named-ping procedure.SetWindow e = let z : _≡_ {A = ℕ} 0 1 = cc in absurd (omega arith)
-named-ping procedure.Status e = let z : _≡_ {A = ℕ} 0 1 = cc in absurd (omega arith)
-named-ping procedure.ReadNumber e = let z : _≡_ {A = ℕ} 0 1 = cc in absurd (omega arith)
-named-ping procedure.Ping e = refl
-
-ping-names : (p : code.Procedure) → procedureIs p .names ≡ true → procedureIs p .tag ≡ 0x31 → ⊥
-ping-names procedure.Start e t = omega arith
-ping-names procedure.Stop e t = omega arith
-ping-names procedure.Rekey e t = omega arith
-ping-names procedure.Expire e t = omega arith
-ping-names procedure.SetNumber e t = omega arith
-ping-names procedure.SetWindow e t = omega arith
-ping-names procedure.Status e t = omega arith
-ping-names procedure.ReadNumber e t = omega arith
-ping-names procedure.Ping e t = let z : _≡_ {A = ℕ} 0 1 = cc in omega arith
-
 -- a procedure that names none asks nothing of state and value
 silent : (p : code.Procedure) → procedureIs p .names ≡ false → (state version : ℕ) (body : List ℕ) (last : ℕ) (value : List ℕ)
     → (procedureIs p .asks state ≡ true) × (procedureIs p .allows version body last value ≡ true)
@@ -121,17 +99,38 @@ silent procedure.SetWindow e state version body last value = let z : _≡_ {A = 
 silent procedure.Status e state version body last value = let z : _≡_ {A = ℕ} 0 1 = cc in absurd (omega arith)
 silent procedure.ReadNumber e state version body last value = let z : _≡_ {A = ℕ} 0 1 = cc in absurd (omega arith)
 silent procedure.Ping e state version body last value = (refl, refl)
+silent procedure.Activation e state version body last value = (refl, refl)
+silent procedure.Deactivation e state version body last value = (refl, refl)
+silent procedure.Inventory e state version body last value = (refl, refl)
+
+-- and its key does not depend on an entry
+entryless : (p : code.Procedure) → procedureIs p .names ≡ false → (image value : List ℕ) (d e : ℕ)
+    → (procedureIs p .knows image d value ≡ procedureIs p .knows image e value) × (procedureIs p .ready image d value ≡ procedureIs p .ready image e value)
+entryless procedure.Start n image value d e = let z : _≡_ {A = ℕ} 0 1 = cc in absurd (omega arith)
+entryless procedure.Stop n image value d e = (refl, refl)
+entryless procedure.Rekey n image value d e = (refl, refl)
+entryless procedure.Expire n image value d e = (refl, refl)
+entryless procedure.SetNumber n image value d e = (refl, refl)
+entryless procedure.SetWindow n image value d e = (refl, refl)
+entryless procedure.Status n image value d e = (refl, refl)
+entryless procedure.ReadNumber n image value d e = (refl, refl)
+entryless procedure.Ping n image value d e = (refl, refl)
+entryless procedure.Activation n image value d e = (refl, refl)
+entryless procedure.Deactivation n image value d e = (refl, refl)
+entryless procedure.Inventory n image value d e = (refl, refl)
 
 -- ---- the rules behind the entry
 
 abbrev under : List ℕ → List ℕ → (ℕ → Type 0) → Type 0
-under image command kept = (e : ℕ) → Names image command e → kept e
+under image command kept = (e : ℕ) → About image command e → kept e
 
 abbrev behind : List ℕ → List ℕ → List ℕ → List ℕ → Rules
 behind image numbers command output =
     rule answer.WrongState (under image command (λ e. rowIn command .State (stateAt image e)))
     (rule answer.BadValue (under image command (rowIn command .Value image numbers command))
-    (rule answer.NoRoom (rowIn command .reply ≤ length output) noMore))
+    (rule answer.UnknownKey (under image command (rowIn command .Known image command))
+    (rule answer.WrongKeyState (under image command (rowIn command .Ready image command))
+    (rule answer.NoRoom (rowIn command .reply image command ≤ length output) noMore))))
 
 module _ (image numbers command output : List ℕ) (octets : Octets image) (rules : ImageRules image) (p : code.Procedure)
     (c : called command ≡ calls.Procedure p) where
@@ -155,53 +154,67 @@ module _ (image numbers command output : List ℕ) (octets : Octets image) (rule
   room = length output
 
   abbrev replied : ℕ → ℕ
-  replied d = length (procedureIs p .reply (spiNamed value) (stateOf (bodyOf image d)) (lastAt numbers d))
+  replied d = length (procedureIs p .reply image d (lastAt numbers d) value)
 
   long : frontLength ≤ length command
   long = called-long command p c
 
-  roomy : (d : ℕ) → Numbered (rule answer.NoRoom (rowIn command .reply ≤ room) noMore) (first ((6, ltb room (replied d)) ∷ []))
+  roomy : (d : ℕ) → Numbered (rule answer.NoRoom (rowIn command .reply image command ≤ room) noMore) (first ((6, ltb room (replied d)) ∷ []))
   roomy d =
-      let same = row .replies (spiNamed value) (stateOf (bodyOf image d)) (lastAt numbers d) in
+      let same = row .replies image command d (lastAt numbers d) in
       next-rule answer.NoRoom (ltb room (replied d)) _ _ _
       (λ t r. omega (arith, ltb-true room (replied d) t))
       (λ t. omega (arith, ltb-false room (replied d) t))
       last-done
 
-  -- at the entry that it names
-  named-rest : (d : ℕ) → Names image command d
+  -- what is asked at an entry that the command is about, if what holds of it holds of each
+  rest : (d : ℕ) → (procedureIs p .names ≡ true → BodyRules image d) → About image command d
+      → ((e : ℕ) → About image command e → (e ≡ d) ⊎ (procedureIs p .names ≡ false))
       → Numbered (behind image numbers command output) (first (testsAt (procedureIs p) image numbers d value room))
-  named-rest d n =
-      let b = rules .body d (n .entry) in
-      let all : (kept : ℕ → Type 0) → kept d → under image command kept = λ kept k e m. subst kept (once d e n m) k in
+  rest d body about all =
       let asked : Bool = procedureIs p .asks (stateOf (bodyOf image d)) in
       next-rule answer.WrongState (not asked) _ _ _
-      (λ t r. differ asked (ap (procedureIs p .asks) (state-at image d) ∙ row .asks (stateAt image d) (r d n)) (not-true asked t))
-      (λ t. all _ (subst (rowIn command .State) (state-at image d) (row .asked (stateOf (bodyOf image d)) (not-false asked t))))
+      (λ t r. differ asked (ap (procedureIs p .asks) (state-at image d) ∙ row .asks (stateAt image d) (r d about)) (not-true asked t))
+      (λ t e m. states t e (all e m))
       (let allowed : Bool = procedureIs p .allows (versionOf image) (bodyOf image d) (lastAt numbers d) value in
       next-rule answer.BadValue (not allowed) _ _ _
-      (λ t r. differ allowed (row .allows image numbers command d b long (r d n)) (not-true allowed t))
-      (λ t. all _ (row .allowed image numbers command d b long (not-false allowed t)))
-      (roomy d))
+      (λ t r. differ allowed (row .allows image numbers command d body long (r d about)) (not-true allowed t))
+      (λ t e m. values t e (all e m))
+      (let known : Bool = procedureIs p .knows image d value in
+      next-rule answer.UnknownKey (not known) _ _ _
+      (λ t r. differ known (row .knows image command d passed (r d about)) (not-true known t))
+      (λ t e m. row .known image command e passed (keys-same e (all e m) .0 ∙ not-false known t))
+      (let ready : Bool = procedureIs p .ready image d value in
+      next-rule answer.WrongKeyState (not ready) _ _ _
+      (λ t r. differ ready (row .readies image command d passed (r d about)) (not-true ready t))
+      (λ t e m. row .readied image command e passed (keys-same e (all e m) .1 ∙ not-false ready t))
+      (roomy d))))
+    where
+      states : not (procedureIs p .asks (stateOf (bodyOf image d))) ≡ false → (e : ℕ) → (e ≡ d) ⊎ (procedureIs p .names ≡ false)
+          → rowIn command .State (stateAt image e)
+      states t e (inl own) =
+          rw own
+          (subst (rowIn command .State) (state-at image d)
+          (row .asked (stateOf (bodyOf image d)) (not-false (procedureIs p .asks (stateOf (bodyOf image d))) t)))
+      states t e (inr none) = row .asked (stateAt image e) (silent p none (stateAt image e) 0 [] 0 [] .0)
 
-  -- and of one that names none, at any
-  other-rest : procedureIs p .names ≡ false → (d : ℕ)
-      → Numbered (behind image numbers command output) (first (testsAt (procedureIs p) image numbers d value room))
-  other-rest n d =
-      let asked : Bool = procedureIs p .asks (stateOf (bodyOf image d)) in
-      next-rule answer.WrongState (not asked) _ _ _
-      (λ t r. differ asked (silent p n (stateOf (bodyOf image d)) 0 [] 0 [] .0) (not-true asked t))
-      (λ t e m. row .asked (stateAt image e) (silent p n (stateAt image e) 0 [] 0 [] .0))
-      (let allowed : Bool = procedureIs p .allows (versionOf image) (bodyOf image d) (lastAt numbers d) value in
-      next-rule answer.BadValue (not allowed) _ _ _
-      (λ t r. differ allowed (silent p n 0 (versionOf image) (bodyOf image d) (lastAt numbers d) value .1) (not-true allowed t))
-      (λ t e m.
-      row .allowed image numbers command e (rules .body e (m .entry)) long
-      (silent p n 0 (versionOf image) (bodyOf image e) (lastAt numbers e) value .1))
-      (roomy d))
+      values : not (procedureIs p .allows (versionOf image) (bodyOf image d) (lastAt numbers d) value) ≡ false
+          → (e : ℕ) → (e ≡ d) ⊎ (procedureIs p .names ≡ false) → rowIn command .Value image numbers command e
+      values t e (inl own) =
+          rw own
+          (row .allowed image numbers command d body long
+          (not-false (procedureIs p .allows (versionOf image) (bodyOf image d) (lastAt numbers d) value) t))
+      values t e (inr none) =
+          row .allowed image numbers command e (λ named. absurd (differ (procedureIs p .names) named none)) long
+          (silent p none 0 (versionOf image) (bodyOf image e) (lastAt numbers e) value .1)
+
+      keys-same : (e : ℕ) → (e ≡ d) ⊎ (procedureIs p .names ≡ false)
+          → (procedureIs p .knows image e value ≡ procedureIs p .knows image d value) × (procedureIs p .ready image e value ≡ procedureIs p .ready image d value)
+      keys-same e (inl own) = rw own (refl, refl)
+      keys-same e (inr none) = entryless p none image value e d
 
   abbrev Entry : Type 0
-  Entry = (octet command 0 ≡ 0x31) ⊎ ((e : ℕ) × Names image command e)
+  Entry = (e : ℕ) × About image command e
 
   abbrev after-form : Found → ℕ
   after-form x = first ((14, isNothing x) ∷ testsAt (procedureIs p) image numbers (indexOf x) value room)
@@ -211,13 +224,15 @@ module _ (image numbers command output : List ℕ) (octets : Octets image) (rule
   by-found n (found.At d) e =
       let f = spi-found image (spiNamed value) d e in
       let names : Names image command d = record { entry = f .0; spi = f .1 ∙ spi-shifted } in
-      next-rule answer.UnknownSpi false _ Entry _ (λ t k. differ false t refl) (λ t. inr (d, names)) (named-rest d names)
+      next-rule answer.UnknownSpi false _ Entry _ (λ t k. differ false t refl) (λ t. (d, λ so. names))
+      (rest d (λ named. rules .body d (f .0)) (λ so. names) (λ k m. inl (once k d (m (sym (row .named) ∙ n)) names)))
   by-found n found.Nothing e =
       step answer.UnknownSpi true _ Entry _ (λ t. missing) (λ t. absurd (differ true refl t))
     where
       missing : Entry → ⊥
-      missing (inl ping) = ping-names p n (sym (called-tag command p c) ∙ ping)
-      missing (inr (d, names)) = spi-missing image (spiNamed value) e d (names .entry) (names .spi ∙ sym spi-shifted)
+      missing (d, about) =
+          let names = about (sym (row .named) ∙ n) in
+          spi-missing image (spiNamed value) e d (names .entry) (names .spi ∙ sym spi-shifted)
 
   entry-rules : Numbered (rule answer.UnknownSpi Entry (behind image numbers command output)) (after-form (entryNamed (procedureIs p) image value))
   unfolding entryNamed
@@ -228,8 +243,8 @@ module _ (image numbers command output : List ℕ) (octets : Octets image) (rule
           (after-form (cond t (withSpi image (spiNamed value)) (found.At 0)))
       by-names true n = by-found n (withSpi image (spiNamed value)) refl
       by-names false n =
-          next-rule answer.UnknownSpi false _ Entry _ (λ t k. differ false t refl)
-          (λ t. inl (called-tag command p c ∙ named-ping p n)) (other-rest n 0)
+          let about : About image command 0 = λ so. absurd (differ (procedureIs p .names) (row .named ∙ so) n) in
+          next-rule answer.UnknownSpi false _ Entry _ (λ t k. differ false t refl) (λ t. (0, about)) (rest 0 (λ named. absurd (differ (procedureIs p .names) named n)) about (λ e m. inr n))
 
 -- ---- all of them, in their order
 
@@ -251,7 +266,7 @@ module _ (image numbers command output : List ℕ) (octets : Octets image) where
       by-called : ImageRules image → (x : Called) → called command ≡ x
           → Numbered
           (rule answer.BadCommand (FormRules command)
-          (rule answer.UnknownSpi ((octet command 0 ≡ 0x31) ⊎ ((e : ℕ) × Names image command e)) (behind image numbers command output)))
+          (rule answer.UnknownSpi ((e : ℕ) × About image command e) (behind image numbers command output)))
           (first
           ((13, callsNone x)
           ∷ (14, isNothing (entryNamed (procedureBehind x) image (valueOf command)))

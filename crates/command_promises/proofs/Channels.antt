@@ -17,7 +17,7 @@ use Rattle.image.specs.Image.{versionOf, bodyOf}
 use Rattle.association.specs.Search.{servesChannel}
 use Rattle.command_form.specs.Channels.{channelName, channelIn, namesOne}
 use Rattle.promises.specs.Forms.{formOf}
-use Rattle.promises.specs.Images.{versionIn, kindAt, mapAt, isSet, ServesChannel, BodyRules}
+use Rattle.promises.specs.Images.{shapeIn, kindAt, mapAt, isSet, ServesChannel, BodyRules}
 use Rattle.promises.proofs.Fields.{spacecraft-at, map-at}
 use Rattle.promises.proofs.Valids.{channel-served, serves-channel}
 use Rattle.command_promises.specs.Rows.{IsChannel}
@@ -47,7 +47,7 @@ module _ (image : List ℕ) (e : ℕ) (b : BodyRules image e) where
 
   -- one channel is at most what the kind allows
   not-set : (n : ℕ) → kindAt image e ≡ n → eqb n 3 ≡ false → isSet image e ≡ false
-  not-set n q other = ap (λ (k : ℕ). eqb (versionIn image) 2 && eqb k 3) q ∙ ap (λ (t : Bool). eqb (versionIn image) 2 && t) other ∙ and-false (eqb (versionIn image) 2)
+  not-set n q other = ap (λ (k : ℕ). shapeIn image .sets && eqb k 3) q ∙ ap (λ (t : Bool). shapeIn image .sets && t) other ∙ and-false (shapeIn image .sets)
 
   most : (n c : ℕ) → kindAt image e ≡ n → isSet image e ≡ false → ServesChannel image e c → c ≤ formOf n .mostChannel
   most n c q one s = rw (← s .one one, ← q) (b .channel one)

@@ -23,14 +23,16 @@ use Rattle.judging.specs.Replies.{Reply}
 use Rattle.link.specs.Calls.{done, left, cut, loaded}
 use Rattle.link.proofs.Leaving.{left-done, left-refused, cut-done, cut-refused}
 use Rattle.command_form.specs.Form.{valueOf}
-use Rattle.procedures.specs.Procedures.{procedureIs}
+use Rattle.procedures.specs.Procedures.{keyStateIn, procedureIs}
 use Rattle.procedures.specs.declared.procedure.Procedure as code
 use Rattle.procedures.specs.declared.procedure.Called.the-variants as calls
 use Rattle.procedures.specs.Procedures.{called}
 use Rattle.procedures.proofs.Calling.{called-tag}
 use Rattle.commands.specs.Commanding.{commandReply, commanded, commandedCut}
 use Rattle.commands.proofs.Doing.{storesOf, numberFor, does}
-use Rattle.commands.proofs.Done.{Where, at, nowhere}
+use Rattle.commands.proofs.Done.{Where, at, nowhere, turning}
+use Rattle.commands.proofs.Managed.{first-of-one}
+use Rattle.commands.proofs.Turning.{marks-stay, turned-valid}
 use Rattle.promises.specs.Images.{countIn, spiAt, directionAt, lastAt}
 use Rattle.promises.specs.Runs.{State, kept, restart, sent, released}
 use Rattle.promises.specs.Runs as frames
@@ -38,6 +40,7 @@ use Rattle.promises.proofs.Effects as frame
 use Rattle.promises.proofs.Keeps.{Good, Inv, loaded-last}
 use Rattle.command_promises.specs.Runs.{Step, call, command, commandCut, after, Shown, saw, numbered, told, setsNumber, shows}
 use Rattle.command_promises.proofs.Keeps.{Spoken, valid-so, where-done}
+use Rattle.command_promises.proofs.NamedKeys.{turnedImage, turned-count}
 
 pub data Effect (e : ℕ) (x y : State) (shown : List Shown) : Type 0 where
   quiet : shown ≡ [] → lastAt (y .numbers) e ≡ lastAt (x .numbers) e → Effect e x y shown
@@ -103,26 +106,28 @@ module _ (e : ℕ) (x : State) (inv : Inv x) (below : e < countIn (x .image)) (c
     -- ---- the number once it is done
 
     number-up : Where s last c q → lastAt last e ≤ lastAt after-all e
-    number-up (at p i calls listed spi ready is) = rw is (by-entry (ℕ-discrete e i))
+    number-up (at p i calls named listed spi ready is) = rw is (by-entry (ℕ-discrete e i))
       where
         by-entry : Dec (e ≡ i) → lastAt last e ≤ lastAt (set last i (numberFor (procedureIs p) last i (valueOf c))) e
         by-entry (yes own) =
             let inside : i < length last = omega (arith, good .thirtyTwo, valid s passed .laid .count, listed) in
             rw own
-            (omega (arith, does p s last i (valueOf c) ready .above, getD-set-same last i (numberFor (procedureIs p) last i (valueOf c)) 0 inside))
+            (omega (arith, does p s last i (valueOf c) named ready .above, getD-set-same last i (numberFor (procedureIs p) last i (valueOf c)) 0 inside))
         by-entry (no other) = omega (arith, getD-set-other last i e (numberFor (procedureIs p) last i (valueOf c)) 0 other)
     number-up (nowhere none same) = rw same (omega arith)
+    number-up (turning id state one turns same) = rw same (omega arith)
 
     number-same : ours ≡ false → Where s last c q → lastAt after-all e ≡ lastAt last e
-    number-same not-ours (at p i calls listed spi ready is) = rw is (by-entry (ℕ-discrete e i))
+    number-same not-ours (at p i calls named listed spi ready is) = rw is (by-entry (ℕ-discrete e i))
       where
         by-entry : Dec (e ≡ i) → lastAt (set last i (numberFor (procedureIs p) last i (valueOf c))) e ≡ lastAt last e
         by-entry (yes own) =
             let inside : i < length last = omega (arith, good .thirtyTwo, valid s passed .laid .count, listed) in
-            let same = does p s last i (valueOf c) ready .same (other-tag not-ours p calls (sym spi ∙ ap (spiAt s) (sym own))) in
+            let same = does p s last i (valueOf c) named ready .same (other-tag not-ours p calls (sym spi ∙ ap (spiAt s) (sym own))) in
             rw own (getD-set-same last i (numberFor (procedureIs p) last i (valueOf c)) 0 inside ∙ same)
         by-entry (no other) = getD-set-other last i e (numberFor (procedureIs p) last i (valueOf c)) 0 other
     number-same not-ours (nowhere none same) = rw same refl
+    number-same not-ours (turning id state one turns same) = rw same refl
 
     -- ---- the mark after the first j stores
 
@@ -131,29 +136,41 @@ module _ (e : ℕ) (x : State) (inv : Inv x) (below : e < countIn (x .image)) (c
 
     mark-up : (j : ℕ) → Where s last c q → markIn s e ≤ markIn (stopped j) e
     unfolding stored
-    mark-up j (at p i calls listed spi ready is) = rw is (by-entry (ℕ-discrete e i))
+    mark-up j (at p i calls named listed spi ready is) = rw is (by-entry (ℕ-discrete e i))
       where
         by-entry : Dec (e ≡ i) → markIn s e ≤ markIn (stored s (take j (storesOf (procedureIs p) s last i (valueOf c)))) e
-        by-entry (yes own) = rw own (does p s last i (valueOf c) ready .after j .rises)
-        by-entry (no other) = omega (arith, does p s last i (valueOf c) ready .after j .otherMark e other)
+        by-entry (yes own) = rw own (does p s last i (valueOf c) named ready .after j .rises)
+        by-entry (no other) = omega (arith, does p s last i (valueOf c) named ready .after j .otherMark e other)
     mark-up j (nowhere none same) = rw (none, take-nil {A = Store} j) (omega arith)
+    mark-up j (turning id state one turns same) =
+        rw one
+        (first-of-one (λ (t : List ℕ). markIn s e ≤ markIn t e) s (keyStateIn s id state) (omega arith)
+        (omega (arith, marks-stay s id state turns e below)) j)
 
     mark-same : (j : ℕ) → ours ≡ false → Where s last c q → markIn (stopped j) e ≡ markIn s e
     unfolding stored
-    mark-same j not-ours (at p i calls listed spi ready is) = rw is (by-entry (ℕ-discrete e i))
+    mark-same j not-ours (at p i calls named listed spi ready is) = rw is (by-entry (ℕ-discrete e i))
       where
         by-entry : Dec (e ≡ i) → markIn (stored s (take j (storesOf (procedureIs p) s last i (valueOf c)))) e ≡ markIn s e
-        by-entry (yes own) = rw own (does p s last i (valueOf c) ready .stands (other-tag not-ours p calls (sym spi ∙ ap (spiAt s) (sym own))) j)
-        by-entry (no other) = does p s last i (valueOf c) ready .after j .otherMark e other
+        by-entry (yes own) = rw own (does p s last i (valueOf c) named ready .stands (other-tag not-ours p calls (sym spi ∙ ap (spiAt s) (sym own))) j)
+        by-entry (no other) = does p s last i (valueOf c) named ready .after j .otherMark e other
     mark-same j not-ours (nowhere none same) = rw (none, take-nil {A = Store} j) refl
+    mark-same j not-ours (turning id state one turns same) =
+        rw one
+        (first-of-one (λ (t : List ℕ). markIn t e ≡ markIn s e) s (keyStateIn s id state) refl (marks-stay s id state turns e below) j)
 
     reloaded : (j : ℕ) (any : List ℕ) → Where s last c q
         → lastAt (loaded (stopped j) any .numbers) e ≡ 64 * markIn (stopped j) e + 63
     unfolding stored
-    reloaded j any (at p i calls listed spi ready is) =
-        let m = does p s last i (valueOf c) ready .after j in
+    reloaded j any (at p i calls named listed spi ready is) =
+        let m = does p s last i (valueOf c) named ready .after j in
         rw is (loaded-last (stored s (take j (storesOf (procedureIs p) s last i (valueOf c)))) any (m .valid) e (rw (m .count) below))
     reloaded j any (nowhere none same) = rw (none, take-nil {A = Store} j) (loaded-last s any passed e below)
+    reloaded j any (turning id state one turns same) =
+        rw one
+        (first-of-one (λ (t : List ℕ). lastAt (loaded t any .numbers) e ≡ 64 * markIn t e + 63) s (keyStateIn s id state)
+        (loaded-last s any passed e below)
+        (loaded-last (turnedImage s id state) any (turned-valid s id state turns) e (rw (turned-count s id state) below)) j)
 
   -- ---- a command, whole and cut
 

@@ -1,4 +1,4 @@
--- What every step of a run keeps, commands among them, whole or cut: the image but for states, windows and marks, its validity, and numbers
+-- What every step of a run keeps, commands among them, whole or cut: the image but for what commands may change, its validity, and numbers
 -- that agree with it.
 -- Assumes nothing.
 use Prim.Native.Nat.{ℕ}
@@ -16,18 +16,20 @@ use Rattle.judging.specs.Replies.{Reply}
 use Rattle.link.specs.Calls.{done, left, cut, loaded}
 use Rattle.link.proofs.Leaving.{left-done, left-refused, cut-done, cut-refused}
 use Rattle.command_form.specs.Form.{valueOf}
-use Rattle.procedures.specs.Procedures.{procedureIs}
+use Rattle.procedures.specs.Procedures.{keyStateIn, procedureIs}
 use Rattle.commands.specs.Commanding.{commandReply, commanded, commandedCut}
 use Rattle.commands.proofs.Doing.{storesOf, numberFor, does}
 use Rattle.commands.proofs.Done as deciding
-use Rattle.commands.proofs.Done.{Where, at, nowhere, place}
-use Rattle.commands.proofs.Managed.{Managed}
+use Rattle.commands.proofs.Done.{Where, at, nowhere, turning, place}
+use Rattle.commands.proofs.Managed.{Managed, first-of-one}
+use Rattle.commands.proofs.Turning.{turned-valid, turned-octets}
 use Rattle.promises.specs.Runs.{State, kept}
 use Rattle.promises.specs.Runs as frames
 use Rattle.promises.proofs.Keeps as frame
 use Rattle.promises.proofs.Keeps.{Inv, loaded-image, load-inv}
 use Rattle.command_promises.specs.Runs.{Step, call, command, commandCut, after}
-use Rattle.command_promises.proofs.Unmanaged.{Same, same-itself, same-marks, same-managed}
+use Rattle.command_promises.proofs.NamedKeys.{turned-agrees}
+use Rattle.command_promises.proofs.Unmanaged.{Same, same-itself, same-marks, same-managed, same-turned}
 
 pub record Keeps (x y : State) : Type 0 where
   pub inv : Inv y
@@ -68,8 +70,8 @@ module _ (x : State) (inv : Inv x) where
 
     done-keeps : q .answer ≡ 0 → Where s last c q → Keeps x (kept (done q s last output))
     unfolding stored
-    done-keeps z (at p i calls listed spi ready is) =
-        let w = does p s last i (valueOf c) ready in
+    done-keeps z (at p i calls named listed spi ready is) =
+        let w = does p s last i (valueOf c) named ready in
         let stores : List Store = storesOf (procedureIs p) s last i (valueOf c) in
         let m : Managed s i (stored s stores) = rw (take-length stores) at (w .after (length stores)) in
         rw is
@@ -87,6 +89,21 @@ module _ (x : State) (inv : Inv x) where
           same = same-managed s i (stored s stores) listed m;
         })
     done-keeps z (nowhere none same) = rw (none, same) unchanged
+    done-keeps z (turning id state one turns same) =
+        rw (one, same)
+        (record {
+          inv =
+              record {
+                octets = turned-octets s id state turns (inv .octets);
+                good = λ passed.
+                    record {
+                      thirtyTwo = inv .good (valid-so z) .thirtyTwo;
+                      agree = turned-agrees s last id state turns (inv .good (valid-so z) .agree);
+                    };
+              };
+          stays = turned-valid s id state turns ∙ sym (valid-so z);
+          same = same-turned s id state (turns .known);
+        })
 
     command-keeps : Keeps x (kept (commanded s last c output))
     unfolding commanded
@@ -98,12 +115,18 @@ module _ (x : State) (inv : Inv x) where
 
     cut-at : (j : ℕ) (any : List ℕ) → q .answer ≡ 0 → Where s last c q → Keeps x (kept (loaded (stored s (take j (q .stores))) any))
     unfolding stored
-    cut-at j any z (at p i calls listed spi ready is) =
-        let m = does p s last i (valueOf c) ready .after j in
+    cut-at j any z (at p i calls named listed spi ready is) =
+        let m = does p s last i (valueOf c) named ready .after j in
         rw is
         (load-keeps (stored s (take j (storesOf (procedureIs p) s last i (valueOf c)))) any (m .octets)
         (m .valid ∙ sym (valid-so z)) (same-managed s i _ listed m))
     cut-at j any z (nowhere none same) = rw (none, take-nil {A = Store} j) (load-keeps s any (inv .octets) refl (same-itself s))
+    cut-at j any z (turning id state one turns same) =
+        rw one
+        (first-of-one (λ (t : List ℕ). Keeps x (kept (loaded t any))) s (keyStateIn s id state)
+        (load-keeps s any (inv .octets) refl (same-itself s))
+        (load-keeps _ any (turned-octets s id state turns (inv .octets)) (turned-valid s id state turns ∙ sym (valid-so z))
+        (same-turned s id state (turns .known))) j)
 
     cut-keeps : (j : ℕ) (any : List ℕ) → Keeps x (kept (loaded (commandedCut s last c output j) any))
     unfolding commandedCut

@@ -2,8 +2,8 @@
 -- Assumes nothing.
 use Prim.Native.Nat.{ℕ, _+_, _-_, _/_, _≤_, min}
 use mathlib.Core.Path.{_≡_, refl, sym, ap, ap₂, subst, _∙_}
-use mathlib.Core.Bool.{true}
-use mathlib.Core.List.{List, [], _∷_}
+use mathlib.Core.Bool.{Bool, true, false, cond}
+use mathlib.Core.List.{List, [], _∷_, _++_}
 use native.Mathlib.Omega.{arith}
 use lib.ListN.{length, set, take}
 use lib.Seq.{take-length, take-nil, getD-drop, set-getD}
@@ -13,7 +13,8 @@ use Rattle.marks.specs.Gray.{gray}
 use Rattle.marks.specs.Stores.{stored}
 use Rattle.marks.specs.declared.plans.Store.{Store}
 use Rattle.bodies.specs.Body.{stateOf}
-use Rattle.image.specs.Image.{versionOf, bodyAt, bodyOf, markIn, validImage}
+use Rattle.keys.specs.Keys.{keyStatePlace}
+use Rattle.image.specs.Image.{versionOf, bodyAt, bodyOf, markIn, partAt, keyWith, validImage}
 use Rattle.image.proofs.ValidImages.{valid}
 use Rattle.numbers.specs.Stores.{storesFor, afterStores}
 use Rattle.association.specs.Search.{withSpi}
@@ -23,8 +24,9 @@ use Rattle.numbers.proofs.LoadedNumbers.{agreed}
 use Rattle.judging.specs.Replies.{Reply}
 use Rattle.link.specs.Calls as link
 use Rattle.link.proofs.Leaving.{left-answer, left-done, cut-done}
+use Rattle.command_form.specs.Form as asked
 use Rattle.command_form.specs.Form.{frontLength, valueOf, spiNamed, numberAsked}
-use Rattle.procedures.specs.Procedures.{Procedure, procedureIs, procedures, withTag, setNumber}
+use Rattle.procedures.specs.Procedures.{Procedure, keyStateIn, procedureIs, procedures, withTag, setNumber}
 use Rattle.procedures.specs.declared.procedure.Called.the-variants as calls
 use Rattle.procedures.specs.declared.procedure.Procedure as code
 use Rattle.procedures.specs.declared.procedure.Procedure.the-variants as procedure
@@ -32,16 +34,19 @@ use Rattle.procedures.proofs.Calling.{called-parts}
 use Rattle.commands.specs.Commanding.{entryNamed, replyAt, commandReply, commanded, commandedCut}
 use Rattle.commands.proofs.Accepting.{Accepts}
 use Rattle.commands.proofs.Doing.{Ready, storesOf, numberFor, does, accepted-number, raises-count}
-use Rattle.commands.proofs.Done.{Done, done, Where, at, nowhere, spi-at}
+use Rattle.commands.proofs.Done.{Done, done, Where, at, nowhere, turning, spi-at}
 use Rattle.commands.proofs.Done as deciding
-use Rattle.commands.proofs.Managed.{Managed}
-use Rattle.promises.specs.Images.{place, spiAt, lastAt, Agreeing}
+use Rattle.commands.proofs.Managed.{Managed, first-of-one}
+use Rattle.commands.proofs.Turning.{turned-valid, turned-octets}
+use Rattle.promises.specs.Images.{shapeIn, place, spiAt, keyAt, HasId, lastAt, Agreeing}
 use Rattle.promises.specs.Leaves.{MarkAlone}
-use Rattle.promises.proofs.Fields.{stands, state-at}
+use Rattle.promises.proofs.Fields.{shapes, stands, state-at, key-place}
 use Rattle.promises.proofs.Stored.{outside}
 use Rattle.promises.proofs.Valids.{code-of-mark, rules-kept, agreement}
-use Rattle.command_promises.specs.Leaves.{Lawfully, Leaves, SetsNumber, LeavesAt, CommandLeaving, writes}
-use Rattle.command_promises.specs.Rows.{Names}
+use Rattle.command_promises.specs.Leaves.{Lawfully, Leaves, SetsNumber, LeavesAt, CommandLeaving, writes, renames, inventoryReply}
+use Rattle.command_promises.proofs.Inventories.{inventory-is}
+use Rattle.command_promises.specs.Rows.{Names, keyNamed}
+use Rattle.command_promises.proofs.NamedKeys.{index-is, turnedImage, turned-agrees}
 use Rattle.command_promises.proofs.Shifted.{shifted}
 
 -- ---- from what is decided to what is left
@@ -99,26 +104,35 @@ module _ (image numbers c output : List ℕ) (z : commanded image numbers c outp
     pub cut-managed : (j : ℕ) → Where image numbers c q
         → (validImage (stored image (take j (q .stores))) ≡ true) × Octets (stored image (take j (q .stores)))
     unfolding stored
-    cut-managed j (at p i calls listed spi ready is) =
-        let m = does p image numbers i (valueOf c) ready .after j in
+    cut-managed j (at p i calls named listed spi ready is) =
+        let m = does p image numbers i (valueOf c) named ready .after j in
         rw is (m .valid, m .octets)
     cut-managed j (nowhere none same) = rw (none, take-nil {A = Store} j) (passed, octets)
+    cut-managed j (turning id state one turns same) =
+        rw one
+        (first-of-one (λ (t : List ℕ). (validImage t ≡ true) × Octets t) image (keyStateIn image id state) (passed, octets)
+        (turned-valid image id state turns, turned-octets image id state turns octets) j)
 
     whole-managed : (validImage (stored image (q .stores)) ≡ true) × Octets (stored image (q .stores))
     whole-managed = rw (take-length (q .stores)) at (cut-managed (length (q .stores)) where-done)
 
     whole-agrees : Where image numbers c q → Agreeing (stored image (q .stores)) (set numbers (q .entry) (q .number))
     unfolding stored
-    whole-agrees (at p i calls listed spi ready is) =
-        let w = does p image numbers i (valueOf c) ready in
+    whole-agrees (at p i calls named listed spi ready is) =
+        let w = does p image numbers i (valueOf c) named ready in
         let stores : List Store = storesOf (procedureIs p) image numbers i (valueOf c) in
         let m : Managed image i (stored image stores) = rw (take-length stores) at (w .after (length stores)) in
         rw is (agreement (stored image stores) (set numbers i (numberFor (procedureIs p) numbers i (valueOf c))) (m .octets) (w .agree))
     whole-agrees (nowhere none same) = rw (none, same) (agreement image numbers octets (is-done .agree))
+    whole-agrees (turning id state one turns same) =
+        rw (one, same)
+        (agreement (turnedImage image id state) numbers (turned-octets image id state turns octets)
+        (turned-agrees image numbers id state turns (is-done .agree)))
 
     few : Where image numbers c q → length (q .stores) ≤ 16
-    few (at p i calls listed spi ready is) = rw is (does p image numbers i (valueOf c) ready .few)
+    few (at p i calls named listed spi ready is) = rw is (does p image numbers i (valueOf c) named ready .few)
     few (nowhere none same) = rw none (omega arith)
+    few (turning id state one turns same) = rw one (omega arith)
 
     pub octets-after : Octets (commanded image numbers c output .image)
     octets-after = rw carried (whole-managed .1)
@@ -156,12 +170,11 @@ module _ (image numbers c output : List ℕ) (z : commanded image numbers c outp
 
         pub ready-at : Ready (procedureIs r) image numbers e (valueOf c)
         ready-at =
-            let u : Accepts (procedureIs r) (versionOf image) (bodyOf image e) (lastAt numbers e) (valueOf c) (length output) =
-            subst (λ (i : ℕ). Accepts (procedureIs r) (versionOf image) (bodyOf image i) (lastAt numbers i) (valueOf c) (length output)) entry-is
+            let u : Accepts (procedureIs r) image e (lastAt numbers e) (valueOf c) (length output) =
+            subst (λ (i : ℕ). Accepts (procedureIs r) image i (lastAt numbers i) (valueOf c) (length output)) entry-is
             (subst
-            (λ (x : code.Procedure).
-            Accepts (procedureIs x) (versionOf image) (bodyOf image (is-done .entry)) (lastAt numbers (is-done .entry)) (valueOf c) (length output)) is
-            (is-done .under))
+            (λ (x : code.Procedure). Accepts (procedureIs x) image (is-done .entry) (lastAt numbers (is-done .entry)) (valueOf c) (length output))
+            is (is-done .under))
             in
             record {
               valid = passed;
@@ -172,12 +185,13 @@ module _ (image numbers c output : List ℕ) (z : commanded image numbers c outp
               octetsIn = λ i. rw (getD-drop frontLength c i 0) (spoken (frontLength + i));
               asked = u .asked;
               allowed = u .allowed;
+              ready = u .ready;
             }
 
         by : (stores : List Store) (last reply : List ℕ)
             → storesOf (procedureIs r) image numbers e (valueOf c) ≡ stores
             → set numbers e (numberFor (procedureIs r) numbers e (valueOf c)) ≡ last
-            → procedureIs r .reply (spiNamed (valueOf c)) (stateOf (bodyOf image e)) (lastAt numbers e) ≡ reply
+            → procedureIs r .reply image e (lastAt numbers e) (valueOf c) ≡ reply
             → Leaves image numbers c output stores last reply
         by stores last reply s l p =
             leaves stores last reply (ap (λ (x : Reply). x .stores) settled ∙ s)
@@ -190,11 +204,25 @@ module _ (image numbers c output : List ℕ) (z : commanded image numbers c outp
       moved : (r : code.Procedure) → withTag (procedureIs r .tag) procedures ≡ calls.Procedure r → procedureIs r .names ≡ true → (state : ℕ)
           → storesOf (procedureIs r) image numbers e (valueOf c) ≡ writes (bodyAt image e + 3) state ∷ []
           → numberFor (procedureIs r) numbers e (valueOf c) ≡ lastAt numbers e
-          → procedureIs r .reply (spiNamed (valueOf c)) (stateOf (bodyOf image e)) (lastAt numbers e) ≡ []
+          → procedureIs r .reply image e (lastAt numbers e) (valueOf c) ≡ []
           → octet c 0 ≡ procedureIs r .tag → Leaves image numbers c output (writes (place image e 3) state ∷ []) numbers []
       moved r w n state s l p t =
           by r (procedure-is r w t) n _ _ _ (s ∙ ap (λ (a : ℕ). writes a state ∷ []) (stands image e 3))
           (ap (set numbers e) l ∙ set-getD numbers e 0) p
+
+      -- a rekey stores the ID of the key first, where the image has a key part
+      rekey-stores : storesOf (procedureIs procedure.Rekey) image numbers e (valueOf c) ≡ renames image c e ++ (writes (place image e 3) 1 ∷ [])
+      rekey-stores =
+          let r = shapes (versionOf image) in
+          rw (r .keyPart, r .key, value-octet 2, value-octet 3, stands image e 3) (by-part (shapeIn image .keyPart))
+        where
+          by-part : (t : Bool)
+              → cond t
+              (writes (bodyAt image e + 16) (octet c 5) ∷ writes (bodyAt image e + 17) (octet c 6) ∷ writes (place image e 3) 1 ∷ [])
+              (writes (place image e 3) 1 ∷ [])
+              ≡ cond t (writes (place image e 16) (octet c 5) ∷ writes (place image e 17) (octet c 6) ∷ []) [] ++ (writes (place image e 3) 1 ∷ [])
+          by-part true = rw (stands image e 16, stands image e 17) refl
+          by-part false = refl
 
       -- set number
       module _ (t : octet c 0 ≡ 0x1A) (w : withTag 0x1A procedures ≡ calls.Procedure procedure.SetNumber) where
@@ -249,7 +277,7 @@ module _ (image numbers c output : List ℕ) (z : commanded image numbers c outp
           record {
             start = moved procedure.Start refl refl 2 refl refl refl;
             stop = moved procedure.Stop refl refl 1 refl refl refl;
-            rekey = moved procedure.Rekey refl refl 1 refl refl refl;
+            rekey = λ t. by procedure.Rekey (procedure-is procedure.Rekey refl t) refl _ _ _ rekey-stores (set-getD numbers e 0) refl;
             expire = moved procedure.Expire refl refl 0 refl refl refl;
             setWindow = λ t.
                 by procedure.SetWindow (procedure-is procedure.SetWindow refl t) refl _ _ _
@@ -263,6 +291,48 @@ module _ (image numbers c output : List ℕ) (z : commanded image numbers c outp
             setNumber = λ t. rw (shifted c 2 12) at (sets t refl);
           }
 
+-- ---- a question that names no association
+
+told : (image numbers c output : List ℕ) (z : commanded image numbers c output .answer ≡ 0) (r : code.Procedure)
+    → withTag (procedureIs r .tag) procedures ≡ calls.Procedure r → octet c 0 ≡ procedureIs r .tag → (reply : List ℕ)
+    → ((e : ℕ) → storesOf (procedureIs r) image numbers e (valueOf c) ≡ [])
+    → ((e : ℕ) → numberFor (procedureIs r) numbers e (valueOf c) ≡ lastAt numbers e)
+    → ((e : ℕ) → procedureIs r .reply image e (lastAt numbers e) (valueOf c) ≡ reply)
+    → Leaves image numbers c output [] numbers reply
+told image numbers c output z r w t reply stores number replies =
+    let d = is-done image numbers c output z in
+    let so = procedure-is image numbers c output z r w t in
+    let e = d .entry in
+    let settled = d .reply ∙ ap (λ (x : code.Procedure). replyAt 0 (procedureIs x) image numbers e (valueOf c)) so in
+    leaves image numbers c output z [] numbers reply (ap (λ (x : Reply). x .stores) settled ∙ stores e)
+    (ap (λ (x : Reply). set numbers (x .entry) (x .number)) settled ∙ ap (set numbers e) (number e) ∙ set-getD numbers e 0)
+    (ap (λ (x : Reply). x .result) settled ∙ replies e)
+
+-- ---- the state of a key
+
+module _ (image numbers c output : List ℕ) (k : ℕ) (has : HasId image (keyNamed c) k) (z : commanded image numbers c output .answer ≡ 0) where
+  abbrev id : ℕ
+  id = asked.keyNamed (valueOf c)
+
+  turned : (r : code.Procedure) → withTag (procedureIs r .tag) procedures ≡ calls.Procedure r → octet c 0 ≡ procedureIs r .tag → (state : ℕ)
+      → ((e : ℕ) → storesOf (procedureIs r) image numbers e (valueOf c) ≡ keyStateIn image id state ∷ [])
+      → ((e : ℕ) → numberFor (procedureIs r) numbers e (valueOf c) ≡ lastAt numbers e)
+      → ((e l : ℕ) → procedureIs r .reply image e l (valueOf c) ≡ [])
+      → Leaves image numbers c output (writes (keyAt image k + 2) state ∷ []) numbers []
+  turned r w t state stores number reply =
+      let d = is-done image numbers c output z in
+      let so = procedure-is image numbers c output z r w t in
+      let e = d .entry in
+      let settled = d .reply ∙ ap (λ (x : code.Procedure). replyAt 0 (procedureIs x) image numbers e (valueOf c)) so in
+      let index : keyWith image id ≡ k = index-is image (passed image numbers c output z) id k (rw (← shifted c 0 2) at has) in
+      let at : keyStatePlace (partAt image) (keyWith image id) ≡ keyAt image k + 2 =
+      ap (keyStatePlace (partAt image)) index ∙ ap (λ (p : ℕ). p + 2) (key-place image k)
+      in
+      leaves image numbers c output z _ numbers []
+      (ap (λ (x : Reply). x .stores) settled ∙ stores e ∙ ap (λ (p : ℕ). writes p state ∷ []) at)
+      (ap (λ (x : Reply). set numbers (x .entry) (x .number)) settled ∙ ap (set numbers e) (number e) ∙ set-getD numbers e 0)
+      (ap (λ (x : Reply). x .result) settled ∙ reply e (lastAt numbers e))
+
 -- ---- all of them
 
 pub command-leaving : CommandLeaving
@@ -271,12 +341,15 @@ command-leaving =
     record {
       always = λ image numbers c output octets spoken thirtyTwo z. lawfully image numbers c output z octets spoken thirtyTwo;
       named = λ image numbers c output e octets spoken thirtyTwo names z. at-entry image numbers c output z octets spoken thirtyTwo e names;
+      activation = λ image numbers c output k has t z.
+          turned image numbers c output k has z procedure.Activation refl t 1 (λ e. refl) (λ e. refl) (λ e l. refl);
+      deactivation = λ image numbers c output k has t z.
+          turned image numbers c output k has z procedure.Deactivation refl t 2 (λ e. refl) (λ e. refl) (λ e l. refl);
       ping = λ image numbers c output t z.
-          let d = is-done image numbers c output z in
-          let so = procedure-is image numbers c output z procedure.Ping refl t in
-          let settled = d .reply ∙ ap (λ (x : code.Procedure). replyAt 0 (procedureIs x) image numbers (d .entry) (valueOf c)) so in
-          leaves image numbers c output z [] numbers (0xB1 ∷ 0 ∷ 0 ∷ [])
-          (ap (λ (x : Reply). x .stores) settled)
-          (ap (λ (x : Reply). set numbers (x .entry) (x .number)) settled ∙ set-getD numbers (d .entry) 0)
-          (ap (λ (x : Reply). x .result) settled);
+          told image numbers c output z procedure.Ping refl t _ (λ e. refl) (λ e. refl) (λ e. refl);
+      inventory = λ image numbers c output t z.
+          told image numbers c output z procedure.Inventory refl t _ (λ e. refl) (λ e. refl)
+          (λ e.
+          inventory-is image (asked.firstNamed (valueOf c)) (asked.lastNamed (valueOf c))
+          ∙ ap₂ (inventoryReply image) (shifted c 0 2) (shifted c 2 2));
     }

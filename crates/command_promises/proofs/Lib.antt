@@ -2,10 +2,13 @@ pub mod Answers
 pub mod Cases
 pub mod Channels
 pub mod Effects
+pub mod FreshIvs
+pub mod Inventories
 pub mod Isolation
 pub mod Keeps
 pub mod Leaves
 pub mod Management
+pub mod NamedKeys
 pub mod Refusals
 pub mod Rows
 pub mod Runs

@@ -1,23 +1,24 @@
--- Management round trips: stop, expire, rekey and start store one octet, the state, so they pass through images that differ there alone, and
--- the last store brings the first image back.
+-- Management round trips: stop, expire and start store one octet, the state, and a rekey to the same key stores the ID that is there; so they
+-- pass through images that differ in the state alone, and the last store brings the first image back.
 -- Assumes nothing.
 use Prim.Native.Nat.{ℕ, _+_, _*_, _≤_, _<_}
 use mathlib.Core.Path.{_≡_, refl, sym, ap, ap₂, subst, _∙_}
-use mathlib.Core.Logic.{inl, inr}
-use mathlib.Core.Bool.{true, _&&_}
+use mathlib.Core.Logic.{_≢_, inl, inr}
+use mathlib.Core.Bool.{Bool, true, false, cond, _&&_}
 use mathlib.Core.List.{List, [], _∷_, _++_}
 use native.Mathlib.Omega.{arith}
 use lib.Dec.{eqb}
 use lib.ListN.{length, set, drop, length-set}
-use lib.Seq.{take-at, set-set, set-getD, getD-set-same}
+use lib.Seq.{take-at, set-set, set-getD, getD-drop, getD-set-same, getD-set-other}
 use Rattle.octets.specs.Lists.{octet, Octets}
-use Rattle.octets.specs.Numbers.{numberAt, bytes}
+use Rattle.octets.specs.Numbers.{number, numberAt, bytes}
 use Rattle.octets.proofs.Numbers.{numberAt-same}
 use Rattle.marks.specs.Stores.{stored}
+use Rattle.marks.specs.declared.plans.Store.{Store}
 use Rattle.bodies.specs.Body.{windowOf, windowFits}
 use Rattle.bodies.specs.Layout.{statePlace}
 use Rattle.image.specs.Image.{versionOf, bodyAt, bodyOf, validImage}
-use Rattle.image.proofs.KeptParts.{kept-version, kept-count, kept-place, kept-spi}
+use Rattle.image.proofs.KeptParts.{kept-version, kept-count, kept-place, kept-spi, kept-in}
 use Rattle.image.proofs.ValidImages.{valid, spi-once}
 use Rattle.judging.specs.Answers.{Reported, reported}
 use Rattle.judging.specs.Said.{Said}
@@ -29,28 +30,31 @@ use Rattle.commands.proofs.KeptFields.{FieldsOnly, SameRest, fields-within, kep
 use Rattle.commands.proofs.Managed.{Managed, state-only, state-stored, window-stays, restated-managed, fields-agree}
 use Rattle.promises.specs.Answers.{Rules, rule, reporting, reportOf, Gives}
 use Rattle.promises.specs.Frames.{FrameRules, RightField, spiOn}
-use Rattle.promises.specs.Images.{versionIn, countIn, spiAt, place, kindAt, stateAt, spacecraftAt, channelAt, mapAt, windowAt, lastAt, isSet}
+use Rattle.promises.specs.Images.{versionIn, shapeIn, countIn, spiAt, place, kindAt, stateAt, spacecraftAt, channelAt, mapAt, windowAt, keyIdAt, lastAt, isSet}
 use Rattle.promises.specs.Images.{ImageRules, Agreeing, Serves}
+use Rattle.promises.specs.Versions.{Shape, shapeOf}
 use Rattle.promises.proofs.Answers.{answering}
-use Rattle.promises.proofs.Fields.{stands, kind-at, state-at, spacecraft-at, channel-at, map-at, window-at}
-use Rattle.promises.proofs.Valids.{between-tested, rules-kept, rules-valid, agreement, agreement-tested}
-use Rattle.command_promises.specs.Answers.{rowIn, FormRules}
-use Rattle.command_promises.specs.Leaves.{Leaves, writes, LeavesAt, SetsNumber}
+use Rattle.promises.proofs.Fields.{shapes, stands, kind-at, state-at, spacecraft-at, channel-at, map-at, window-at}
+use Rattle.promises.proofs.Valids.{between-tested, rules-kept, rules-valid, agreement, agreement-tested, key-found}
+use Rattle.command_promises.specs.Answers.{rowIn, FormRules, About}
+use Rattle.command_promises.specs.Leaves.{Leaves, writes, renames, LeavesAt, SetsNumber}
 use Rattle.command_promises.specs.Management.{Speaks, Starts, Rekeys, Restored, Stopped, Management}
-use Rattle.command_promises.specs.Rows.{Names, IsChannel, rowOf}
+use Rattle.command_promises.specs.Rows.{Names, NeedsKey, NeedsActive, IsChannel, rowOf}
 use Rattle.command_promises.proofs.Answers.{command-answers}
 use Rattle.command_promises.proofs.Leaves.{command-leaving, octets-after}
+use Rattle.command_promises.proofs.NamedKeys.{in-state}
 
 -- ---- where every rule is kept, the answer is 0
 
 answers-zero : (image numbers c output : List ℕ) (e : ℕ) → Octets image → ImageRules image → Agreeing image numbers → FormRules c
-    → Names image c e → rowIn c .State (stateAt image e) → rowIn c .Value image numbers c e → rowIn c .reply ≤ length output
+    → rowIn c .names ≡ true → Names image c e → rowIn c .State (stateAt image e) → rowIn c .Value image numbers c e
+    → rowIn c .Known image c e → rowIn c .Ready image c e → rowIn c .reply image c ≤ length output
     → commanded image numbers c output .answer ≡ 0
 unfolding Gives
-answers-zero image numbers c output e octets rules agree form names state value room =
+answers-zero image numbers c output e octets rules agree form named names state value known ready room =
     let v = valid image (rules-valid image octets rules) in
-    let under : (P : ℕ → Type 0) → P e → (d : ℕ) → Names image c d → P d =
-    λ P p d n. subst P (spi-once image v e d (names .entry) (n .entry) (names .spi ∙ sym (n .spi))) p in
+    let under : (P : ℕ → Type 0) → P e → (d : ℕ) → About image c d → P d =
+    λ P p d about. subst P (spi-once image v e d (names .entry) (about named .entry) (names .spi ∙ sym (about named .spi))) p in
     sym
     (command-answers .commanding image numbers c output octets .alone (reporting 0 0 0)
     (inr (
@@ -60,10 +64,13 @@ answers-zero image numbers c output e octets rules agree form names state value 
         inr (
           form,
           inr (
-            inr (e, names),
+            (e, λ so. names),
             inr (
               under (λ (d : ℕ). rowIn c .State (stateAt image d)) state,
-              inr (under (rowIn c .Value image numbers c) value, inr (room, refl)),
+              inr (
+                under (rowIn c .Value image numbers c) value,
+                inr (under (rowIn c .Known image c) known, inr (under (rowIn c .Ready image c) ready, inr (room, refl))),
+              ),
             ),
           ),
         ),
@@ -77,8 +84,22 @@ by-state c t s e h = rw e h
 by-value : (image numbers c : List ℕ) (e t : ℕ) → octet c 0 ≡ t → rowOf t .Value image numbers c e → rowIn c .Value image numbers c e
 by-value image numbers c e t q h = rw q h
 
-by-room : (c : List ℕ) (t n : ℕ) → octet c 0 ≡ t → rowOf t .reply ≤ n → rowIn c .reply ≤ n
-by-room c t n e h = rw e h
+by-name : (c : List ℕ) (t : ℕ) → octet c 0 ≡ t → rowOf t .names ≡ true → rowIn c .names ≡ true
+by-name c t q h = rw q h
+
+by-known : (image c : List ℕ) (e t : ℕ) → octet c 0 ≡ t → rowOf t .Known image c e → rowIn c .Known image c e
+by-known image c e t q h = rw q h
+
+by-ready : (image c : List ℕ) (e t : ℕ) → octet c 0 ≡ t → rowOf t .Ready image c e → rowIn c .Ready image c e
+by-ready image c e t q h = rw q h
+
+by-room : (image c : List ℕ) (t n : ℕ) → octet c 0 ≡ t → rowOf t .reply image c ≤ n → rowIn c .reply image c ≤ n
+by-room image c t n e h = rw e h
+
+-- a number of two octets is told by them
+two-octets : (s : List ℕ) (at : ℕ) → numberAt at 2 s ≡ octet s at * 256 + octet s (at + 1)
+unfolding number
+two-octets s at = let z : at + 0 ≡ at = omega arith in rw (getD-drop at s 0 0, getD-drop at s 1 0, z) (omega arith)
 
 -- ---- the images that a state passes through
 
@@ -97,7 +118,9 @@ module _ (image numbers : List ℕ) (e : ℕ) (octets : Octets image) (thirtyTwo
   only state = state-only image e passed listed state
 
   managed : (state : ℕ) → state ≤ 2 → Managed image e (with state)
-  managed state small = restated-managed image e passed listed state octets small (λ s. fits)
+  managed state small =
+      restated-managed image e passed listed state octets small (λ s. fits)
+      (λ s has. valid image passed .keyed has .serves e listed (state-at image e ∙ running))
 
   rules-with : (state : ℕ) → state ≤ 2 → ImageRules (with state)
   rules-with state small = rules-kept (with state) (managed state small .octets) (managed state small .valid)
@@ -131,7 +154,7 @@ module _ (image numbers : List ℕ) (e : ℕ) (octets : Octets image) (thirtyTwo
       let c : channelAt (with state) e ≡ channelAt image e =
       sym (channel-at (with state) e) ∙ rest state .channel ∙ channel-at image e in
       let m : mapAt (with state) e ≡ mapAt image e = sym (map-at (with state) e) ∙ rest state .map ∙ map-at image e in
-      let set : isSet (with state) e ≡ isSet image e = ap₂ (λ (a b : ℕ). eqb a 2 && eqb b 3) v k in
+      let set : isSet (with state) e ≡ isSet image e = ap₂ (λ (a b : ℕ). shapeOf a .sets && eqb b 3) v k in
       record {
         channel = r .channel;
         served =
@@ -144,6 +167,42 @@ module _ (image numbers : List ℕ) (e : ℕ) (octets : Octets image) (thirtyTwo
         telemetry = λ q. rw s (r .telemetry (sym k ∙ q));
         aos = λ q. rw s (r .aos (sym k ∙ q));
       }
+
+  -- the key that its body names is active all the while
+  place-with : (state j : ℕ) → place (with state) e j ≡ place image e j
+  place-with state j =
+      ap₂ (λ (v k : ℕ). shapeOf v .front + 4 * k + shapeOf v .body * e + j) (kept-version (fields-within (only state)))
+      (kept-count (fields-within (only state)))
+
+  octet-with : (state j : ℕ) → j ≢ 3 → octet (with state) (place image e j) ≡ octet image (place image e j)
+  octet-with state j other =
+      getD-set-other image (bodyAt image e + statePlace) (place image e j) state 0
+      (λ q. other (omega (arith, q, stands image e 3)))
+
+  -- the ID by its octets
+  id-octets : (s : List ℕ) → numberAt (place image e 16) 2 s ≡ octet s (place image e 16) * 256 + octet s (place image e 17)
+  id-octets s =
+      let at : place image e 16 + 1 ≡ place image e 17 = omega arith in
+      two-octets s (place image e 16) ∙ ap (λ (p : ℕ). octet s (place image e 16) * 256 + octet s p) at
+
+  id-with : (state : ℕ) → keyIdAt (with state) e ≡ keyIdAt image e
+  id-with state =
+      ap (λ (p : ℕ). numberAt p 2 (with state)) (place-with state 16)
+      ∙ id-octets (with state)
+      ∙ ap₂ (λ (a b : ℕ). a * 256 + b) (octet-with state 16 (λ q. omega arith)) (octet-with state 17 (λ q. omega arith))
+      ∙ sym (id-octets image)
+
+  shape-with : (state : ℕ) → shapeIn (with state) ≡ shapeIn image
+  shape-with state = ap shapeOf (kept-version (fields-within (only state)))
+
+  active-with : (state : ℕ) → NeedsActive (with state) (keyIdAt image e)
+  active-with state has =
+      let k = rules .keys (rw (shape-with state) at has) .active e listed running in
+      key-found (with state) (keyIdAt image e) 1
+      (kept-in (fields-within (only state)) 1 (keyIdAt image e) ∙ in-state image passed (keyIdAt image e) 1 k)
+
+  known-with : (state : ℕ) → NeedsKey (with state) (keyIdAt image e)
+  known-with state has = let k = active-with state has in (k .0, k .1)
 
   -- one after the other
   with-with : (state next : ℕ) → set (with state) (place (with state) e 3) next ≡ with next
@@ -164,38 +223,93 @@ module _ (image numbers : List ℕ) (e : ℕ) (octets : Octets image) (thirtyTwo
   names-with : (state t : ℕ) (c : List ℕ) → Speaks image e t c → Names (with state) c e
   names-with state t c s = record { entry = listed-with state; spi = spi-with state ∙ sym (s .spi) }
 
-  moves : (state next : ℕ) → state ≤ 2 → (t : ℕ) (c output : List ℕ) → Speaks image e t c
-      → rowOf t .State state → rowOf t .Value (with state) numbers c e → rowOf t .reply ≤ 0
-      → (LeavesAt (with state) numbers c output e
-      → Leaves (with state) numbers c output (writes (place (with state) e 3) next ∷ []) numbers [])
+  moves : (state next : ℕ) → state ≤ 2 → (t : ℕ) (c output : List ℕ) → Speaks image e t c → rowOf t .names ≡ true
+      → rowOf t .State state → rowOf t .Value (with state) numbers c e → rowOf t .Known (with state) c e → rowOf t .Ready (with state) c e
+      → rowOf t .reply (with state) c ≤ 0
+      → (stores : List Store) → stored (with state) stores ≡ with next
+      → (LeavesAt (with state) numbers c output e → Leaves (with state) numbers c output stores numbers [])
       → Restored (with next) numbers (commanded (with state) numbers c output)
-  unfolding stored
-  moves state next small t c output s asked allowed none which =
+  moves state next small t c output s named asked allowed known ready none stores made which =
       let names = names-with state t c s in
       let octets-with = managed state small .octets in
-      let z = answers-zero (with state) numbers c output e octets-with (rules-with state small) (agree-with state small) (s .form) names
+      let z = answers-zero (with state) numbers c output e octets-with (rules-with state small) (agree-with state small) (s .form)
+      (by-name c t (s .tag) named) names
       (by-state c t _ (s .tag) (rw (state-with state) asked)) (by-value (with state) numbers c e t (s .tag) allowed)
-      (by-room c t (length output) (s .tag) (omega arith)) in
+      (by-known (with state) c e t (s .tag) known) (by-ready (with state) c e t (s .tag) ready)
+      (by-room (with state) c t (length output) (s .tag) (omega arith)) in
       let l = which (command-leaving .named (with state) numbers c output e octets-with (s .octets) thirtyTwo names z) in
-      record { answer = z; images = l .whole ∙ with-with state next; lasts = l .lasts }
+      record { answer = z; images = l .whole ∙ made; lasts = l .lasts }
+
+  one-store : (state next : ℕ) → stored (with state) (writes (place (with state) e 3) next ∷ []) ≡ with next
+  unfolding stored
+  one-store state next = with-with state next
 
   starts : (c output : List ℕ) → Starts image e c → Restored image numbers (commanded (with 1) numbers c output)
   unfolding rowOf
   starts c output s =
       let w = rules .body e listed .window running in
       rw with-two at
-      (moves 1 2 (omega arith) 0x1B c output (s .speaks) refl
+      (moves 1 2 (omega arith) 0x1B c output (s .speaks) refl refl
       (record { channels = λ i h. channel-with 1 _ (s .channels i h); window = rw (window-with 1) w })
-      (omega arith) (λ l. l .start (s .speaks .tag)))
+      (rw (id-with 1) (known-with 1)) (rw (id-with 1) (active-with 1))
+      (omega arith) _ (one-store 1 2) (λ l. l .start (s .speaks .tag)))
 
   expires : (c output : List ℕ) → Speaks image e 0x19 c → Restored (with 0) numbers (commanded (with 1) numbers c output)
   unfolding rowOf
-  expires c output s = moves 1 0 (omega arith) 0x19 c output s refl tt (omega arith) (λ l. l .expire (s .tag))
+  expires c output s = moves 1 0 (omega arith) 0x19 c output s refl refl tt tt tt (omega arith) _ (one-store 1 0) (λ l. l .expire (s .tag))
+
+  -- a rekey stores the ID that is there
+  same-octets : (c : List ℕ) → Octets c → numberAt 5 2 c ≡ keyIdAt image e
+      → (octet (with 0) (place image e 16) ≡ octet c 5) × (octet (with 0) (place image e 17) ≡ octet c 6)
+  same-octets c spoken is =
+      let h : octet c 6 < 256 = spoken 6 in
+      let k : octet image (place image e 17) < 256 = octets (place image e 17) in
+      let whole : octet c 5 * 256 + octet c 6 ≡ octet image (place image e 16) * 256 + octet image (place image e 17) =
+      sym (two-octets c 5) ∙ is ∙ id-octets image
+      in (
+        octet-with 0 16 (λ q. omega arith) ∙ omega arith,
+        octet-with 0 17 (λ q. omega arith) ∙ omega arith,
+      )
+
+  rekey-stores : (c : List ℕ) → Rekeys image e c
+      → stored (with 0) (renames (with 0) c e ++ (writes (place (with 0) e 3) 1 ∷ [])) ≡ with 1
+  unfolding stored
+  rekey-stores c s = by-part (shapeIn (with 0) .keyPart) refl
+    where
+      by-part : (t : Bool) → shapeIn (with 0) .keyPart ≡ t
+          → stored (with 0)
+          (cond t (writes (place (with 0) e 16) (octet c 5) ∷ writes (place (with 0) e 17) (octet c 6) ∷ []) []
+          ++ (writes (place (with 0) e 3) 1 ∷ [])) ≡ with 1
+      by-part true has =
+          let part : shapeIn image .keyPart ≡ true = rw (shape-with 0) at has in
+          let own : numberAt 5 2 c ≡ keyIdAt image e = s .key ∙ rw part refl in
+          let o = same-octets c (s .speaks .octets) own in
+          let high : set (with 0) (place (with 0) e 16) (octet c 5) ≡ with 0 =
+          ap₂ (set (with 0)) (place-with 0 16) (sym (o .0)) ∙ set-getD (with 0) (place image e 16) 0
+          in
+          let low : set (with 0) (place (with 0) e 17) (octet c 6) ≡ with 0 =
+          ap₂ (set (with 0)) (place-with 0 17) (sym (o .1)) ∙ set-getD (with 0) (place image e 17) 0
+          in
+          ap (λ (x : List ℕ). set (set x (place (with 0) e 17) (octet c 6)) (place (with 0) e 3) 1) high
+          ∙ ap (λ (x : List ℕ). set x (place (with 0) e 3) 1) low
+          ∙ with-with 0 1
+      by-part false none = with-with 0 1
 
   rekeys : (c output : List ℕ) → Rekeys image e c → Restored (with 1) numbers (commanded (with 0) numbers c output)
   unfolding rowOf
   rekeys c output s =
-      moves 0 1 (omega arith) 0x16 c output (s .speaks) refl (s .key, s .number) (omega arith) (λ l. l .rekey (s .speaks .tag))
+      moves 0 1 (omega arith) 0x16 c output (s .speaks) refl refl (named-none, s .number)
+      (λ has. rw (named-own has) (known-with 0 has)) (λ has. rw (named-own has) (active-with 0 has))
+      (omega arith) _ (rekey-stores c s) (λ l. l .rekey (s .speaks .tag))
+    where
+      part : shapeIn (with 0) .keyPart ≡ shapeIn image .keyPart
+      part = ap (λ (x : Shape). x .keyPart) (shape-with 0)
+
+      named-own : shapeIn (with 0) .keyPart ≡ true → numberAt 5 2 c ≡ keyIdAt image e
+      named-own has = s .key ∙ ap (λ (t : Bool). cond t (keyIdAt image e) 0) (sym part ∙ has)
+
+      named-none : shapeIn (with 0) .keyPart ≡ false → numberAt 5 2 c ≡ 0
+      named-none none = s .key ∙ ap (λ (t : Bool). cond t (keyIdAt image e) 0) (sym part ∙ none)
 
   -- ---- no frame is served meanwhile
 
@@ -248,7 +362,7 @@ module _ (image numbers c output : List ℕ) (octets : Octets image) (z : comman
   abbrev report : Reported
   report = reportOf (commanded image numbers c output)
 
-  given : ImageRules image × (Agreeing image numbers × ((e : ℕ) → Names image c e → rowIn c .State (stateAt image e)))
+  given : ImageRules image × (Agreeing image numbers × ((e : ℕ) → About image c e → rowIn c .State (stateAt image e)))
   given =
       let g1 = kept-first answer.BadImage _ _ report z (omega arith) (command-answers .commanding image numbers c output octets .given) in
       let g2 = kept-first answer.BadMarks _ _ report z (omega arith) (g1 .1) in
@@ -280,12 +394,12 @@ module _ (image numbers c read output room : List ℕ) (e : ℕ) (octets : Octet
   rules = given image numbers c output octets z .0
 
   count-kept : countIn (x .image) ≡ countIn image
-  count-kept = sets .whole .elsewhere 1 (inl (omega arith))
+  count-kept = sets .whole .elsewhere 1 (inl (omega (arith, shapes (versionIn image) .begins)))
 
   spi-kept : spiAt (x .image) e ≡ spiAt image e
   spi-kept =
       numberAt-same (2 + 4 * e) 2 (x .image) image
-      (λ i h. sets .whole .elsewhere (2 + 4 * e + i) (inl (omega (arith, names .entry))))
+      (λ i h. sets .whole .elsewhere (2 + 4 * e + i) (inl (omega (arith, names .entry, shapes (versionIn image) .begins))))
 
   read-names : Names (x .image) read e
   read-names = record { entry = omega (arith, count-kept, names .entry); spi = spi-kept ∙ sym (s .spi) }
@@ -297,9 +411,10 @@ module _ (image numbers c read output room : List ℕ) (e : ℕ) (octets : Octet
   unfolding rowOf
   reads =
       let l = command-leaving .always image numbers c output octets spoken thirtyTwo z in
-      answers-zero (x .image) (x .numbers) read room e after-octets (l .valid rules) (l .agree) (s .form) read-names
+      answers-zero (x .image) (x .numbers) read room e after-octets (l .valid rules) (l .agree) (s .form) (by-name read 0x10 (s .tag) refl) read-names
       (by-state read 0x10 _ (s .tag) tt) (by-value (x .image) (x .numbers) read e 0x10 (s .tag) tt)
-      (by-room read 0x10 (length room) (s .tag) roomy)
+      (by-known (x .image) read e 0x10 (s .tag) tt) (by-ready (x .image) read e 0x10 (s .tag) tt)
+      (by-room (x .image) read 0x10 (length room) (s .tag) roomy)
 
   last-is : lastAt (x .numbers) e ≡ n
   last-is =
@@ -323,7 +438,7 @@ management =
       stopped = λ image numbers stop output e octets thirtyTwo names spoken tag z.
           let l = command-leaving .named image numbers stop output e octets spoken thirtyTwo names z .stop tag in
           let g = given image numbers stop output octets z in
-          let running = was-running stop (stateAt image e) tag (g .1 .1 e names) in
+          let running = was-running stop (stateAt image e) tag (g .1 .1 e (λ so. names)) in
           let whole = l .whole ∙ ap (λ (at : ℕ). set image at 1) (sym (stands image e 3)) in
           rw (whole, l .lasts)
           (stopped-with image numbers e octets thirtyTwo (g .0) (g .1 .0) (names .entry) running);

@@ -3,7 +3,7 @@
 -- Assumes nothing.
 use Prim.Native.Nat.{ℕ, _+_, _-_, _*_, _/_, _%_, _≤_}
 use mathlib.Core.Path.{_≡_, refl, sym, ap, ap₂, _∙_}
-use mathlib.Core.Bool.{Bool, true, false, cond, not, _&&_}
+use mathlib.Core.Bool.{Bool, true, false, cond, not, _&&_, _||_}
 use mathlib.Core.List.{List}
 use native.Mathlib.Omega.{arith}
 use borrow.Author.Tests.{eqb-true, eqb-false, eq-eqb, ne-eqb, leb-true, le-leb, not-true}
@@ -14,22 +14,25 @@ use Rattle.octets.proofs.Alls.{and-left, and-right, all-at, all-every}
 use Rattle.kinds.specs.Kinds.{named}
 use Rattle.bodies.specs.Body.{kindIn, windowOf, mostWindow}
 use Rattle.bodies.proofs.ValidBodies as bodies
-use Rattle.image.specs.Image.{versionOf, bodyOf}
+use Rattle.image.specs.Image.{versionOf, layout, bodyOf, keyIdIn, validImage}
 use Rattle.numbers.proofs.Agreement.{accepted}
 use Rattle.command_form.specs.Channels.{namesOne, channelCount, channelNamed, channelsRight}
-use Rattle.command_form.specs.Form.{frontLength, valueOf, keyAsked, numberBehindKey, windowAsked, numberAsked}
+use Rattle.command_form.specs.Form.{frontLength, valueOf, keyAsked, keyNamed, firstNamed, lastNamed, numberBehindKey, windowAsked, numberAsked}
 use Rattle.procedures.specs.Procedures.{Procedure, procedureIs, procedures, withTag, mostRise}
 use Rattle.procedures.specs.declared.procedure.Called.{Called}
 use Rattle.procedures.specs.declared.procedure.Called.the-variants as calls
 use Rattle.procedures.specs.declared.procedure.Procedure as code
 use Rattle.procedures.specs.declared.procedure.Procedure.the-variants as procedure
-use Rattle.promises.specs.Images.{kindAt, lastAt, BodyRules}
+use Rattle.promises.specs.Images.{kindAt, keyCountIn, lastAt, BodyRules}
 use Rattle.promises.proofs.Answers.{accepting}
-use Rattle.promises.proofs.Fields.{kind-at, window-at}
-use Rattle.promises.proofs.Valids.{between-tested}
+use Rattle.promises.proofs.Fields.{shapes, kind-at, window-at, key-id-at}
+use Rattle.promises.proofs.Valids.{between-tested, key-found}
 use Rattle.command_promises.specs.Rows.{Row, IsChannel, startRow, stopRow, rekeyRow, expireRow, setNumberRow}
-use Rattle.command_promises.specs.Rows.{setWindowRow, statusRow, readNumberRow, pingRow, noRow, rowOf}
+use Rattle.command_promises.specs.Rows.{setWindowRow, statusRow, readNumberRow, pingRow, activationRow, deactivationRow, inventoryRow, noRow, rowOf}
+use Rattle.command_promises.specs.Rows.{keysBetween}
+use Rattle.command_promises.proofs.Inventories.{inventory-size}
 use Rattle.command_promises.proofs.Channels.{names-channel, channel-named}
+use Rattle.command_promises.proofs.NamedKeys.{key-is, is-key, in-state, needs-key, needed-key, needs-active, needed-active, key-freed, freed-key}
 use Rattle.command_promises.proofs.Shifted.{shifted}
 
 -- ---- a tag without a procedure has no row
@@ -44,6 +47,9 @@ rowFor (calls.Procedure procedure.SetWindow) = setWindowRow
 rowFor (calls.Procedure procedure.Status) = statusRow
 rowFor (calls.Procedure procedure.ReadNumber) = readNumberRow
 rowFor (calls.Procedure procedure.Ping) = pingRow
+rowFor (calls.Procedure procedure.Activation) = activationRow
+rowFor (calls.Procedure procedure.Deactivation) = deactivationRow
+rowFor (calls.Procedure procedure.Inventory) = inventoryRow
 rowFor calls.Nothing = noRow
 
 either : (t : Bool) (x y : Called) (row : Row) → row ≡ rowFor y → cond t (rowFor x) row ≡ rowFor (cond t x y)
@@ -61,7 +67,10 @@ row-of tag =
     (either (eqb tag 0x15) _ _ _
     (either (eqb tag 0x1F) _ _ _
     (either (eqb tag 0x10) _ _ _
-    (either (eqb tag 0x31) _ calls.Nothing _ refl))))))))
+    (either (eqb tag 0x31) _ _ _
+    (either (eqb tag 0x02) _ _ _
+    (either (eqb tag 0x03) _ _ _
+    (either (eqb tag 0x07) _ calls.Nothing _ refl)))))))))))
 
 -- ---- a procedure and its row
 
@@ -70,11 +79,16 @@ pub record Fits (p : Procedure) (row : Row) : Type 0 where
   pub sizes : (n : ℕ) → row .Size (3 + n) → p .sized n ≡ true
   pub asked : (state : ℕ) → p .asks state ≡ true → row .State state
   pub asks : (state : ℕ) → row .State state → p .asks state ≡ true
-  pub allowed : (image numbers command : List ℕ) (e : ℕ) → BodyRules image e → 3 ≤ length command
+  pub allowed : (image numbers command : List ℕ) (e : ℕ) → (p .names ≡ true → BodyRules image e) → 3 ≤ length command
       → p .allows (versionOf image) (bodyOf image e) (lastAt numbers e) (valueOf command) ≡ true → row .Value image numbers command e
-  pub allows : (image numbers command : List ℕ) (e : ℕ) → BodyRules image e → 3 ≤ length command
+  pub allows : (image numbers command : List ℕ) (e : ℕ) → (p .names ≡ true → BodyRules image e) → 3 ≤ length command
       → row .Value image numbers command e → p .allows (versionOf image) (bodyOf image e) (lastAt numbers e) (valueOf command) ≡ true
-  pub replies : (spi state last : ℕ) → length (p .reply spi state last) ≡ row .reply
+  pub named : p .names ≡ row .names
+  pub known : (image command : List ℕ) (e : ℕ) → validImage image ≡ true → p .knows image e (valueOf command) ≡ true → row .Known image command e
+  pub knows : (image command : List ℕ) (e : ℕ) → validImage image ≡ true → row .Known image command e → p .knows image e (valueOf command) ≡ true
+  pub readied : (image command : List ℕ) (e : ℕ) → validImage image ≡ true → p .ready image e (valueOf command) ≡ true → row .Ready image command e
+  pub readies : (image command : List ℕ) (e : ℕ) → validImage image ≡ true → row .Ready image command e → p .ready image e (valueOf command) ≡ true
+  pub replies : (image command : List ℕ) (e last : ℕ) → length (p .reply image e last (valueOf command)) ≡ row .reply image command
 
 -- of a number that has to be one alone
 exact : (size n : ℕ) → eqb n size ≡ true → 3 + n ≡ 3 + size
@@ -82,6 +96,11 @@ exact size n e = ap (λ (k : ℕ). 3 + k) (eqb-true n size e)
 
 exactly : (size n : ℕ) → 3 + n ≡ 3 + size → eqb n size ≡ true
 exactly size n e = eq-eqb n size (omega arith)
+
+-- one of two is true, if the second is where the first is not
+either-true : (a b : Bool) → (a ≡ false → b ≡ true) → (a || b) ≡ true
+either-true true b h = refl
+either-true false b h = h refl
 
 -- ---- start
 
@@ -137,13 +156,18 @@ start-fits =
       allowed = λ image numbers command e b long t.
           let channels : Bool = channelsRight (versionOf image) (bodyOf image e) (valueOf command) in
           record {
-            channels = channels-named image numbers command e b long (and-left channels _ t);
+            channels = channels-named image numbers command e (b refl) long (and-left channels _ t);
             window = rw (← window-at image e) (bodies.between 1 (windowOf (bodyOf image e)) mostWindow (and-right channels _ t));
           };
       allows = λ image numbers command e b long v.
-          ap₂ _&&_ (named-channels image numbers command e b long (v .channels))
+          ap₂ _&&_ (named-channels image numbers command e (b refl) long (v .channels))
           (between-tested 1 (windowOf (bodyOf image e)) mostWindow (rw (window-at image e) (v .window)));
-      replies = λ spi state last. refl;
+      named = refl;
+      known = λ image command e v t. rw (← key-id-at image e) (needs-key image v (keyIdIn image e) t);
+      knows = λ image command e v k. needed-key image v (keyIdIn image e) (rw (key-id-at image e) k);
+      readied = λ image command e v t. rw (← key-id-at image e) (needs-active image v (keyIdIn image e) t);
+      readies = λ image command e v k. needed-active image v (keyIdIn image e) (rw (key-id-at image e) k);
+      replies = λ image command e last. refl;
     }
 
 -- ---- one that asks its state and nothing of its value
@@ -157,7 +181,12 @@ stop-fits =
       asks = λ state s. eq-eqb 2 state (sym s);
       allowed = λ image numbers command e b long t. tt;
       allows = λ image numbers command e b long v. refl;
-      replies = λ spi state last. refl;
+      named = refl;
+      known = λ image command e v t. tt;
+      knows = λ image command e v k. refl;
+      readied = λ image command e v t. tt;
+      readies = λ image command e v k. refl;
+      replies = λ image command e last. refl;
     }
 
 expire-fits : Fits (procedureIs procedure.Expire) expireRow
@@ -169,7 +198,12 @@ expire-fits =
       asks = λ state s. eq-eqb 1 state (sym s);
       allowed = λ image numbers command e b long t. tt;
       allows = λ image numbers command e b long v. refl;
-      replies = λ spi state last. refl;
+      named = refl;
+      known = λ image command e v t. tt;
+      knows = λ image command e v k. refl;
+      readied = λ image command e v t. tt;
+      readies = λ image command e v k. refl;
+      replies = λ image command e last. refl;
     }
 
 rekey-fits : Fits (procedureIs procedure.Rekey) rekeyRow
@@ -179,14 +213,60 @@ rekey-fits =
       sizes = exactly 16;
       asked = λ state t. sym (eqb-true 0 state t);
       asks = λ state s. eq-eqb 0 state (sym s);
-      allowed = λ image numbers command e b long t. (
-        sym (shifted command 2 2) ∙ eqb-true (keyAsked (valueOf command)) 0 (and-left (eqb (keyAsked (valueOf command)) 0) _ t),
-        sym (shifted command 4 12) ∙ eqb-true (numberBehindKey (valueOf command)) 0 (and-right (eqb (keyAsked (valueOf command)) 0) _ t),
-      );
+      allowed = λ image numbers command e b long t.
+          let first : Bool = layout image .keys || eqb (keyAsked (valueOf command)) 0 in (
+            λ none.
+                sym (shifted command 2 2)
+                ∙ eqb-true (keyAsked (valueOf command)) 0 (rw (shapes (versionOf image) .keyPart ∙ none) at (and-left first _ t)),
+            sym (shifted command 4 12) ∙ eqb-true (numberBehindKey (valueOf command)) 0 (and-right first _ t),
+          );
       allows = λ image numbers command e b long v.
-          ap₂ _&&_ (eq-eqb (keyAsked (valueOf command)) 0 (shifted command 2 2 ∙ v .0))
+          ap₂ _&&_
+          (either-true (layout image .keys) (eqb (keyAsked (valueOf command)) 0)
+          (λ none. eq-eqb (keyAsked (valueOf command)) 0 (shifted command 2 2 ∙ v .0 (sym (shapes (versionOf image) .keyPart) ∙ none))))
           (eq-eqb (numberBehindKey (valueOf command)) 0 (shifted command 4 12 ∙ v .1));
-      replies = λ spi state last. refl;
+      named = refl;
+      known = λ image command e v t. rw (← shifted command 2 2) (needs-key image v (keyAsked (valueOf command)) t);
+      knows = λ image command e v k. needed-key image v (keyAsked (valueOf command)) (rw (shifted command 2 2) k);
+      readied = λ image command e v t. rw (← shifted command 2 2) (needs-active image v (keyAsked (valueOf command)) t);
+      readies = λ image command e v k. needed-active image v (keyAsked (valueOf command)) (rw (shifted command 2 2) k);
+      replies = λ image command e last. refl;
+    }
+
+-- ---- the state of a key
+
+activation-fits : Fits (procedureIs procedure.Activation) activationRow
+activation-fits =
+    record {
+      sized = exact 2;
+      sizes = exactly 2;
+      asked = λ state t. tt;
+      asks = λ state s. refl;
+      allowed = λ image numbers command e b long t. tt;
+      allows = λ image numbers command e b long v. refl;
+      named = refl;
+      known = λ image command e v t. rw (← shifted command 0 2) (key-is image v (keyNamed (valueOf command)) t);
+      knows = λ image command e v k. is-key image v (keyNamed (valueOf command)) (rw (shifted command 0 2) k);
+      readied = λ image command e v t. rw (← shifted command 0 2) (key-found image (keyNamed (valueOf command)) 0 t);
+      readies = λ image command e v k. in-state image v (keyNamed (valueOf command)) 0 (rw (shifted command 0 2) k);
+      replies = λ image command e last. refl;
+    }
+
+deactivation-fits : Fits (procedureIs procedure.Deactivation) deactivationRow
+deactivation-fits =
+    record {
+      sized = exact 2;
+      sizes = exactly 2;
+      asked = λ state t. tt;
+      asks = λ state s. refl;
+      allowed = λ image numbers command e b long t. tt;
+      allows = λ image numbers command e b long v. refl;
+      named = refl;
+      known = λ image command e v t. rw (← shifted command 0 2) (key-is image v (keyNamed (valueOf command)) t);
+      knows = λ image command e v k. is-key image v (keyNamed (valueOf command)) (rw (shifted command 0 2) k);
+      readied = λ image command e v t. rw (← shifted command 0 2) (key-freed image v (keyNamed (valueOf command)) t);
+      readies = λ image command e v k. freed-key image v (keyNamed (valueOf command)) (rw (shifted command 0 2) k);
+      replies = λ image command e last. refl;
     }
 
 -- ---- the number and the window
@@ -203,7 +283,12 @@ set-number-fits =
           rw (← shifted command 2 12) (record { above = a .above; near = a .near; most = a .fits });
       allows = λ image numbers command e b long v.
           rw (shifted command 2 12) (accepting (lastAt numbers e) mostRise (numberAt 5 12 command) (v .above) (v .near) (v .most));
-      replies = λ spi state last. refl;
+      named = refl;
+      known = λ image command e v t. tt;
+      knows = λ image command e v k. refl;
+      readied = λ image command e v t. tt;
+      readies = λ image command e v k. refl;
+      replies = λ image command e last. refl;
     }
 
 set-window-fits : Fits (procedureIs procedure.SetWindow) setWindowRow
@@ -217,7 +302,12 @@ set-window-fits =
           rw (← shifted command 2 2) (bodies.between 1 (windowAsked (valueOf command)) mostWindow t);
       allows = λ image numbers command e b long v.
           rw (shifted command 2 2) (between-tested 1 (numberAt 5 2 command) mostWindow v);
-      replies = λ spi state last. refl;
+      named = refl;
+      known = λ image command e v t. tt;
+      knows = λ image command e v k. refl;
+      readied = λ image command e v t. tt;
+      readies = λ image command e v k. refl;
+      replies = λ image command e last. refl;
     }
 
 -- ---- questions
@@ -232,7 +322,12 @@ status-fits =
       asks = λ state s. refl;
       allowed = λ image numbers command e b long t. tt;
       allows = λ image numbers command e b long v. refl;
-      replies = λ spi state last. refl;
+      named = refl;
+      known = λ image command e v t. tt;
+      knows = λ image command e v k. refl;
+      readied = λ image command e v t. tt;
+      readies = λ image command e v k. refl;
+      replies = λ image command e last. refl;
     }
 
 read-number-fits : Fits (procedureIs procedure.ReadNumber) readNumberRow
@@ -245,7 +340,12 @@ read-number-fits =
       asks = λ state s. refl;
       allowed = λ image numbers command e b long t. tt;
       allows = λ image numbers command e b long v. refl;
-      replies = λ spi state last. refl;
+      named = refl;
+      known = λ image command e v t. tt;
+      knows = λ image command e v k. refl;
+      readied = λ image command e v t. tt;
+      readies = λ image command e v k. refl;
+      replies = λ image command e last. refl;
     }
 
 ping-fits : Fits (procedureIs procedure.Ping) pingRow
@@ -258,7 +358,31 @@ ping-fits =
       asks = λ state s. refl;
       allowed = λ image numbers command e b long t. tt;
       allows = λ image numbers command e b long v. refl;
-      replies = λ spi state last. refl;
+      named = refl;
+      known = λ image command e v t. tt;
+      knows = λ image command e v k. refl;
+      readied = λ image command e v t. tt;
+      readies = λ image command e v k. refl;
+      replies = λ image command e last. refl;
+    }
+
+inventory-fits : Fits (procedureIs procedure.Inventory) inventoryRow
+inventory-fits =
+    record {
+      sized = exact 4;
+      sizes = exactly 4;
+      asked = λ state t. tt;
+      asks = λ state s. refl;
+      allowed = λ image numbers command e b long t. tt;
+      allows = λ image numbers command e b long v. refl;
+      named = refl;
+      known = λ image command e v t. tt;
+      knows = λ image command e v k. refl;
+      readied = λ image command e v t. tt;
+      readies = λ image command e v k. refl;
+      replies = λ image command e last.
+          inventory-size image (firstNamed (valueOf command)) (lastNamed (valueOf command))
+          ∙ ap₂ (λ (a b : ℕ). 5 + 3 * keysBetween image a b (keyCountIn image)) (shifted command 0 2) (shifted command 2 2);
     }
 
 -- ---- each of them
@@ -273,6 +397,9 @@ fits procedure.SetWindow = set-window-fits
 fits procedure.Status = status-fits
 fits procedure.ReadNumber = read-number-fits
 fits procedure.Ping = ping-fits
+fits procedure.Activation = activation-fits
+fits procedure.Deactivation = deactivation-fits
+fits procedure.Inventory = inventory-fits
 
 -- of a command that calls one
 pub row-fits : (tag : ℕ) (p : code.Procedure) → withTag tag procedures ≡ calls.Procedure p → Fits (procedureIs p) (rowOf tag)

@@ -29,16 +29,16 @@ module _ (e : ℕ) (x y : State) (k : Keeps x y) where
   next-below : e < countIn (x .image) → e < countIn (y .image)
   next-below below = omega (arith, count-same (x .image) (y .image) (k .same))
 
-  next-direction : directionAt (y .image) e ≡ directionAt (x .image) e
-  next-direction = direction-same (x .image) (y .image) (k .same) e
+  next-direction : e < countIn (x .image) → directionAt (y .image) e ≡ directionAt (x .image) e
+  next-direction below = direction-same (x .image) (y .image) (k .same) e below
 
-first-spoken : (v : Step) (vs : List Step) → OfOctets (v ∷ vs) → Spoken v
+pub first-spoken : (v : Step) (vs : List Step) → OfOctets (v ∷ vs) → Spoken v
 unfolding OfOctets Spoken
 first-spoken (call v) vs o = tt
 first-spoken (command c output) vs o = o .0
 first-spoken (commandCut c output j any) vs o = o .0
 
-rest-spoken : (v : Step) (vs : List Step) → OfOctets (v ∷ vs) → OfOctets vs
+pub rest-spoken : (v : Step) (vs : List Step) → OfOctets (v ∷ vs) → OfOctets vs
 unfolding OfOctets
 rest-spoken (call v) vs o = o
 rest-spoken (command c output) vs o = o .1
@@ -52,8 +52,8 @@ record Sent (e : ℕ) (x : State) (p l : ℕ) (free : Bool) : Type 0 where
   low : p ≤ lastAt (x .numbers) e
   high : free ≡ false → lastAt (x .numbers) e ≤ p + 64 * l
 
-sent-now : (e : ℕ) (x y : State) → Keeps x y → directionAt (x .image) e ≡ 1 → (n : ℕ) → lastAt (y .numbers) e ≡ n → Sent e y n 0 false
-sent-now e x y k one n new = record { direction = next-direction e x y k ∙ one; low = omega arith; high = λ f. omega arith }
+sent-now : (e : ℕ) (x y : State) → Keeps x y → e < countIn (x .image) → directionAt (x .image) e ≡ 1 → (n : ℕ) → lastAt (y .numbers) e ≡ n → Sent e y n 0 false
+sent-now e x y k below one n new = record { direction = next-direction e x y k below ∙ one; low = omega arith; high = λ f. omega arith }
 
 not-free : (P : Type 0) → true ≡ false → P
 not-free P f = let z : _≡_ {A = ℕ} 0 1 = cc in absurd (omega arith)
@@ -76,7 +76,7 @@ sent-after e (v ∷ vs) x p l free o inv below a =
         (λ passed.
         let b = a (before e x (after x v) k passed) in
         record {
-          direction = next-direction e x (after x v) k ∙ b .direction;
+          direction = next-direction e x (after x v) k below ∙ b .direction;
           low = omega (arith, b .low);
           high = λ f. omega (arith, b .high f);
         }))
@@ -87,7 +87,7 @@ sent-after e (v ∷ vs) x p l free o inv below a =
         let old = before e x (after x v) k passed in
         let b = a old in
         record {
-          direction = next-direction e x (after x v) k ∙ b .direction;
+          direction = next-direction e x (after x v) k below ∙ b .direction;
           low = omega (arith, b .low, low old);
           high = λ f. omega (arith, b .high f, high old (b .direction));
         }))
@@ -96,7 +96,7 @@ sent-after e (v ∷ vs) x p l free o inv below a =
         rw shown (
           omega (arith, b .low),
           (λ f. omega (arith, b .high f)),
-          ih (lastAt (x .numbers) e + 1) 0 false (λ later. sent-now e x (after x v) k one _ new),
+          ih (lastAt (x .numbers) e + 1) 0 false (λ later. sent-now e x (after x v) k below one _ new),
         )
     by-effect k (frees n passed two shown up new) ih = absurd (omega (arith, a passed .direction))
     by-effect k (raises shown up) ih =
@@ -105,7 +105,7 @@ sent-after e (v ∷ vs) x p l free o inv below a =
         (λ passed.
         let b = a (before e x (after x v) k passed) in
         record {
-          direction = next-direction e x (after x v) k ∙ b .direction;
+          direction = next-direction e x (after x v) k below ∙ b .direction;
           low = omega (arith, b .low);
           high = not-free _;
         }))
@@ -116,7 +116,7 @@ sent-after e (v ∷ vs) x p l free o inv below a =
         let old = before e x (after x v) k passed in
         let b = a old in
         record {
-          direction = next-direction e x (after x v) k ∙ b .direction;
+          direction = next-direction e x (after x v) k below ∙ b .direction;
           low = omega (arith, b .low, up old);
           high = not-free _;
         }))
@@ -136,7 +136,7 @@ sent-rise e (v ∷ vs) x o inv below =
     by-effect k (sends passed one shown new) ih =
         rw shown
         (sent-after e vs (after x v) _ 0 false (rest-spoken v vs o) (k .inv) (next-below e x (after x v) k below)
-        (λ later. sent-now e x (after x v) k one _ new))
+        (λ later. sent-now e x (after x v) k below one _ new))
     by-effect k (frees n passed two shown up new) ih = rw shown ih
     by-effect k (raises shown up) ih = rw shown ih
     by-effect k (raisesCut shown up) ih = rw shown ih
@@ -238,7 +238,7 @@ released-once (numbered ∷ r) a = released-once r a
 
 -- ---- the image
 
-ran-keeps : (vs : List Step) (x : State) → OfOctets vs → Inv x → Keeps x (ran x vs)
+pub ran-keeps : (vs : List Step) (x : State) → OfOctets vs → Inv x → Keeps x (ran x vs)
 unfolding ran
 ran-keeps [] x o inv = record { inv = inv; stays = refl; same = same-itself (x .image) }
 ran-keeps (v ∷ vs) x o inv =

@@ -4,7 +4,7 @@
 -- octets.
 -- Assumes nothing.
 use Prim.Native.Nat.{ℕ, _+_, _≤_}
-use mathlib.Core.Logic.{_⊎_}
+use mathlib.Core.Bool.{true}
 use mathlib.Core.Path.{_≡_}
 use mathlib.Core.List.{List}
 use lib.ListN.{length}
@@ -24,18 +24,24 @@ pub record FormRules (command : List ℕ) : Type 0 where
   pub field : length command ≡ 3 + numberAt 1 2 command
   pub size : rowIn command .Size (length command)
 
--- in the order 1, 2, 13, 14, 15, 16, 6; `under` the entry that the command names, of which a valid image has at most one. A ping names none
+-- entry e is the one that the command names; a command that names none says so of any
+abbrev pub About : List ℕ → List ℕ → ℕ → Type 0
+About image command e = rowIn command .names ≡ true → Names image command e
+
+-- in the order 1, 2, 13, 14, 15, 16, 17, 18, 6; `under` the entry that the command names, of which a valid image has at most one
 abbrev pub commandRules : List ℕ → List ℕ → List ℕ → List ℕ → Rules
 commandRules image numbers command output =
-    let under : (ℕ → Type 0) → Type 0 = λ kept. (e : ℕ) → Names image command e → kept e in
+    let under : (ℕ → Type 0) → Type 0 = λ kept. (e : ℕ) → About image command e → kept e in
     rule answer.BadImage (ImageRules image)
     (rule answer.BadMarks (Agreeing image numbers)
     (rule answer.BadCommand (FormRules command)
-    (rule answer.UnknownSpi ((octet command 0 ≡ 0x31) ⊎ ((e : ℕ) × Names image command e))
+    (rule answer.UnknownSpi ((e : ℕ) × About image command e)
     (rule answer.WrongState (under (λ e. rowIn command .State (stateAt image e)))
     (rule answer.BadValue (under (rowIn command .Value image numbers command))
-    (rule answer.NoRoom (rowIn command .reply ≤ length output)
-    noMore))))))
+    (rule answer.UnknownKey (under (rowIn command .Known image command))
+    (rule answer.WrongKeyState (under (rowIn command .Ready image command))
+    (rule answer.NoRoom (rowIn command .reply image command ≤ length output)
+    noMore))))))))
 
 pub record CommandAnswers : Type 0 where
   pub commanding : (image numbers command output : List ℕ) → Octets image

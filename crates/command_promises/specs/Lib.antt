@@ -1,5 +1,6 @@
 pub mod Answers
 pub mod Cases
+pub mod FreshIvs
 pub mod Isolation
 pub mod Leaves
 pub mod Management

@@ -4,6 +4,7 @@
 -- Assumes nothing.
 use Prim.Native.Nat.{ℕ, _+_, _*_, _≤_}
 use mathlib.Core.Path.{_≡_}
+use mathlib.Core.Bool.{cond}
 use mathlib.Core.List.{List, _∷_, _++_}
 use lib.ListN.{length}
 use Rattle.octets.specs.Lists.{octet, Octets}
@@ -12,7 +13,7 @@ use Rattle.link.specs.Calls.{Left, handed, secured, checked}
 use Rattle.commands.specs.Commanding.{commanded}
 use Rattle.judging.specs.Said.{Said}
 use Rattle.promises.specs.Frames.{FrameRules, RightField, spiOn}
-use Rattle.promises.specs.Images.{spiAt}
+use Rattle.promises.specs.Images.{shapeIn, spiAt, keyIdAt}
 use Rattle.command_promises.specs.Answers.{FormRules}
 use Rattle.command_promises.specs.Rows.{Names, IsChannel}
 
@@ -28,10 +29,10 @@ pub record Starts (image : List ℕ) (e : ℕ) (command : List ℕ) : Type 0 whe
   pub speaks : Speaks image e 0x1B command
   pub channels : (i : ℕ) → 5 + 4 * i + 4 ≤ length command → IsChannel image e (numberAt (5 + 4 * i) 4 command)
 
--- a rekey with key ID 0 and number 0
+-- a rekey with key ID 0, or where the image has a key part the ID of the entry's own key, and number 0
 pub record Rekeys (image : List ℕ) (e : ℕ) (command : List ℕ) : Type 0 where
   pub speaks : Speaks image e 0x16 command
-  pub key : numberAt 5 2 command ≡ 0
+  pub key : numberAt 5 2 command ≡ cond (shapeIn image .keyPart) (keyIdAt image e) 0
   pub number : numberAt 7 12 command ≡ 0
 
 -- all as it was, after a call that is done

@@ -1,9 +1,9 @@
--- Demand 3 with management commands (document 02, request 5): in every run, under every association, numbers only rise. A run begins with a
+-- Demand 3 with management commands (document 02, requests 5 and 9): in every run, under every association, numbers only rise. A run begins with a
 -- load of any image, and goes on with loads, sendings, checks and commands, with any arguments, any of which may be cut after any of its
 -- stores, after which only a load comes. Under each association the numbers of frames handed out strictly rise, and so do those of data
 -- released, through stop, expire, rekey, start and changes of window and number. A sent number exceeds the one before by at most 1 plus 64
 -- for each load between them, if no set number for that association, whole or cut, came between. The image stays valid, and only states,
--- windows and marks of it change. It supposes only that the image and the commands are octets.
+-- windows, key IDs and marks of its bodies and states of its keys change. It supposes only that the image and the commands are octets.
 -- Assumes nothing.
 use Prim.Native.Nat.{ℕ, _+_, _*_, _≤_, _<_}
 use mathlib.Core.Path.{_≡_}
@@ -16,7 +16,7 @@ use Rattle.octets.specs.Lists.{octet, Octets}
 use Rattle.octets.specs.Numbers.{numberAt}
 use Rattle.link.specs.Calls.{loaded}
 use Rattle.commands.specs.Commanding.{commanded, commandedCut}
-use Rattle.promises.specs.Images.{countIn, spiAt, place, ImageRules}
+use Rattle.promises.specs.Images.{shapeIn, countIn, spiAt, place, markPlace, keyCountIn, keyAt, ImageRules}
 use Rattle.promises.specs.Runs as frames
 use Rattle.promises.specs.Runs.{State, kept, restart, sent, released, Once, begun}
 
@@ -120,17 +120,24 @@ releasedIn (numbered ∷ r) = releasedIn r
 
 -- ---- and of the image
 
--- a place that is neither state, window nor mark of entry i
+-- a place that is neither state, window, key ID nor mark of entry i
 pub record Elsewhere (image : List ℕ) (i p : ℕ) : Type 0 where
   pub state : p ≢ place image i 3
   pub high : p ≢ place image i 8
   pub low : p ≢ place image i 9
-  pub mark : (p < place image i 48) ⊎ (place image i 52 ≤ p)
+  pub keyHigh : shapeIn image .keyPart ≡ true → p ≢ place image i 16
+  pub keyLow : shapeIn image .keyPart ≡ true → p ≢ place image i 17
+  pub mark : (p < markPlace image i) ⊎ (markPlace image i + 4 ≤ p)
+
+-- and not the state of a key
+pub record Unmanaged (image : List ℕ) (p : ℕ) : Type 0 where
+  pub entry : (i : ℕ) → i < countIn image → Elsewhere image i p
+  pub key : (k : ℕ) → k < keyCountIn image → p ≢ keyAt image k + 2
 
 pub record ManagedAlone (before image : List ℕ) : Type 0 where
   pub valid : ImageRules before → ImageRules image
   pub size : length image ≡ length before
-  pub elsewhere : (p : ℕ) → ((i : ℕ) → i < countIn before → Elsewhere before i p) → octet image p ≡ octet before p
+  pub elsewhere : (p : ℕ) → Unmanaged before p → octet image p ≡ octet before p
 
 -- ---- the promise
 

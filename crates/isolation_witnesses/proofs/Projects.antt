@@ -12,6 +12,7 @@ use Rattle.numbers.specs.Numbers.{agrees}
 use Rattle.link.specs.Calls.{secured, checked}
 use Rattle.promises.specs.Cases.{imageWith, oneNumber, frameC, securedC, room, imageB, receiver, bare}
 use Rattle.promises.specs.Frames.{spiOn}
+use Rattle.promises.specs.KeyedCases.{keyedBody, keyOf, sharedImage, oneKeyed}
 use Rattle.promises.specs.Isolation.{Standing, both, neither, SameAnswer}
 use Rattle.promises.proofs.Answers.{nobody}
 use Rattle.promises.proofs.Computing.{everything}
@@ -71,7 +72,7 @@ unfolding everything
 same-sending =
     isolation .sending imageB (oneNumber 63) (twoProjects 1) twoNumbers (bare 1) 9 frameC room room one-sends two-send refl
     (both 0 1 (serving imageB 1 (bare 1) 9 frameC 0 (lit< tt) refl) (serving (twoProjects 1) 1 (bare 1) 9 frameC 1 (lit< tt) refl)
-    refl refl)
+    refl refl refl)
 
 pub same-check : let frame = out 1 5 1 5 1 (bare 1) frameC in
     SameAnswer (checked (receiver 100 0) (oneNumber 63) (bare 1) frame room) (checked (twoProjects 2) twoNumbers (bare 1) frame room)
@@ -81,7 +82,7 @@ same-check =
     let spi = spiOn (bare 1) frame in
     isolation .checking (receiver 100 0) (oneNumber 63) (twoProjects 2) twoNumbers (bare 1) frame room room one-receives two-receive refl
     (both 0 1 (serving (receiver 100 0) 2 (bare 1) spi frame 0 (lit< tt) refl) (serving (twoProjects 2) 2 (bare 1) spi frame 1 (lit< tt) refl)
-    refl refl)
+    refl refl refl)
 
 -- in version 2: a sending on channel 1 of the set of channels 1 and 5
 set-sends : Standing (imageWith 2 0x22 1 3 1 100 0) (oneNumber 63)
@@ -100,7 +101,28 @@ same-sending-by-sets =
     let two = besides 2 0x22 3 1 in
     isolation .sending one (oneNumber 63) two twoNumbers (bare 3) 9 otherFrame room room set-sends set-sends-besides refl
     (both 0 1 (serving one 1 (bare 3) 9 otherFrame 0 (lit< tt) refl) (serving two 1 (bare 3) 9 otherFrame 1 (lit< tt) refl)
-    refl refl)
+    refl refl refl)
+
+-- in version 3: the entry of SPI 9 names key 5, which has another neighbour; and beside it is another project's entry
+abbrev besidesKeyed : List ℕ
+besidesKeyed =
+    sharedImage (keyedBody 2 1 1 2 0x0005 0) (keyedBody 1 1 2 2 0x0009 1) 3 (keyOf 0x0004 2 0x01 ++ keyOf 0x0005 1 0x07 ++ keyOf 0x0009 1 0x02)
+
+key-sends : Standing (oneKeyed 2 1 2 1) (oneNumber 63)
+unfolding everything
+key-sends = standing (oneKeyed 2 1 2 1) (oneNumber 63) refl refl refl
+
+key-sends-besides : Standing besidesKeyed (63 ∷ 100 ∷ replicate 30 0)
+unfolding everything
+key-sends-besides = standing besidesKeyed (63 ∷ 100 ∷ replicate 30 0) refl refl refl
+
+pub same-sending-by-keys :
+    SameAnswer (secured (oneKeyed 2 1 2 1) (oneNumber 63) (bare 1) 9 frameC room) (secured besidesKeyed (63 ∷ 100 ∷ replicate 30 0) (bare 1) 9 frameC room)
+unfolding everything
+same-sending-by-keys =
+    isolation .sending (oneKeyed 2 1 2 1) (oneNumber 63) besidesKeyed (63 ∷ 100 ∷ replicate 30 0) (bare 1) 9 frameC room room key-sends key-sends-besides refl
+    (both 0 0 (serving (oneKeyed 2 1 2 1) 1 (bare 1) 9 frameC 0 (lit< tt) refl) (serving besidesKeyed 1 (bare 1) 9 frameC 0 (lit< tt) refl)
+    refl refl refl)
 
 -- a sending under SPI 8 and a check at the ends that send: neither image has an entry for them
 pub neither-sends : SameAnswer (secured imageB (oneNumber 63) (bare 1) 8 frameC room) (secured (twoProjects 1) twoNumbers (bare 1) 8 frameC room)

@@ -42,7 +42,7 @@ use Rattle.judging.proofs.Searches.{Finds, finds, finds-none}
 use Rattle.promises.specs.Answers.{reporting, Rules, rule, noMore, reportOf, Gives, Exactly}
 use Rattle.promises.specs.Answers.{loadRules, securingRules, checkingRules, Answering}
 use Rattle.promises.specs.Frames.{FrameRules, RightField, Opens, securitySize, spiOn, numberOn, textOn, macOn, rightMac}
-use Rattle.promises.specs.Images.{rowIn, serviceAt, windowAt, maskAt, keyOctetsAt, lastAt, ImageRules, Agreeing, Serves}
+use Rattle.promises.specs.Images.{shapeIn, serviceAt, windowAt, maskAt, keyOctetsAt, lastAt, ImageRules, Agreeing, Serves}
 use Rattle.promises.proofs.Fields.{service-at, window-at, mask-at, key-at}
 use Rattle.promises.proofs.Readings.{form, header-size, trailer-size, frame-kept, frame-tested, field-kept, field-tested}
 use Rattle.promises.proofs.Readings.{spi-on, security-size, text-on, mac-right}
@@ -194,15 +194,15 @@ module _ (image numbers : List ℕ) (octets : Octets image) (direction : ℕ) (s
     n = numberIn h (kindSaid said) frame
 
     number-read : 0 < n → n ≤ greatest
-        → Opens (rowIn image) (serviceAt image e) said spi frame × (numberOn (rowIn image) (serviceAt image e) said frame ≡ n)
+        → Opens (shapeIn image) (serviceAt image e) said spi frame × (numberOn (shapeIn image) (serviceAt image e) said frame ≡ n)
     number-read some most =
         let k =
         held-kept image numbers e (rules-valid image octets rules) (f .below) said frame (rw (f .association) at some) (rw (f .association) at most)
         in
         (rw (serves .spis) at (k .0), k .1 ∙ ap (λ (x : Association). numberIn (heldIn x) (kindSaid said) frame) (sym (f .association)))
 
-    number-found : Opens (rowIn image) (serviceAt image e) said spi frame → numberOn (rowIn image) (serviceAt image e) said frame ≤ greatest
-        → n ≡ numberOn (rowIn image) (serviceAt image e) said frame
+    number-found : Opens (shapeIn image) (serviceAt image e) said spi frame → numberOn (shapeIn image) (serviceAt image e) said frame ≤ greatest
+        → n ≡ numberOn (shapeIn image) (serviceAt image e) said frame
     number-found opens most =
         ap (λ (x : Association). numberIn (heldIn x) (kindSaid said) frame) (f .association)
         ∙ held-right image numbers e (rules-valid image octets rules) (f .below) said frame (rw (serves .spis) opens) most

@@ -30,8 +30,9 @@ use Rattle.services.specs.SecurityHeader.{numberUnder}
 use Rattle.services.specs.Services.{service}
 use Rattle.promises.specs.Forms.{formOf}
 use Rattle.promises.specs.Images as words
-use Rattle.promises.specs.Versions.{rowOf}
+use Rattle.promises.specs.Versions.{shapeOf}
 use Rattle.promises.specs.Cases.{imageWith, securedC, clearTc, room}
+use Rattle.promises.specs.KeyedCases as keyed
 
 unfoldable pub octets : Unit {0}
 unfolding trailingZeros tab part all number bytes same
@@ -48,7 +49,7 @@ closings = tt
 
 -- in the promises' words
 unfoldable pub forms : Unit {0}
-unfolding formOf rowOf words.keyFrom
+unfolding formOf shapeOf words.keyFrom
 forms = tt
 
 unfoldable pub images : Unit {0}
@@ -74,7 +75,7 @@ calls = tt
 
 -- what the cases speak of
 unfoldable pub examples : Unit {0}
-unfolding imageWith securedC clearTc room
+unfolding imageWith securedC clearTc room keyed.keyedBody keyed.keyOf keyed.keyedImage keyed.sharedImage keyed.securedWith
 examples = tt
 
 unfoldable pub everything : Unit {0}

@@ -24,7 +24,7 @@ use Rattle.judging.specs.Replies.{Reply}
 use Rattle.judging.specs.Said.{Said}
 use Rattle.link.proofs.Leaving.{left-answer, left-done, left-refused, cut-done, cut-refused}
 use Rattle.promises.specs.Frames.{spiOn, numberOn}
-use Rattle.promises.specs.Images.{rowIn, countIn, spiAt, serviceAt, directionAt, lastAt}
+use Rattle.promises.specs.Images.{shapeIn, countIn, spiAt, serviceAt, directionAt, lastAt}
 use Rattle.promises.specs.Runs.{Step, load, send, check, sendCut, checkCut, State, kept, after, Shown, restart, sent, released, shows}
 use Rattle.promises.proofs.Keeps.{Good, Inv, loaded-last}
 use Rattle.promises.proofs.Released as releasing
@@ -148,7 +148,7 @@ module _ (e : ℕ) (x : State) (inv : Inv x) (below : e < countIn (x .image)) wh
   -- ---- under the entry's own SPI
 
   sent-own : (said : Said) (spi : ℕ) (frame output : List ℕ) → let y = secured s last said spi frame output in
-      spi ≡ spiAt s e → y .answer ≡ 0 → Effect e x (kept y) (sent (numberOn (rowIn s) (serviceAt s e) said (handed y)) ∷ [])
+      spi ≡ spiAt s e → y .answer ≡ 0 → Effect e x (kept y) (sent (numberOn (shapeIn s) (serviceAt s e) said (handed y)) ∷ [])
   sent-own said spi frame output own done-so =
       let u = sending.used s last said spi frame output e below (sym own) done-so in
       let q = sending.reply s last said spi frame output e below (sym own) done-so in
@@ -160,13 +160,13 @@ module _ (e : ℕ) (x : State) (inv : Inv x) (below : e < countIn (x .image)) wh
       (own-number 1 said spi frame e (length output) q u refl ∙ sending.number s last said spi frame output e below (sym own) done-so))
 
   released-own : (said : Said) (frame output : List ℕ) → let y = checked s last said frame output in
-      spiOn said frame ≡ spiAt s e → y .answer ≡ 0 → Effect e x (kept y) (released (numberOn (rowIn s) (serviceAt s e) said frame) ∷ [])
+      spiOn said frame ≡ spiAt s e → y .answer ≡ 0 → Effect e x (kept y) (released (numberOn (shapeIn s) (serviceAt s e) said frame) ∷ [])
   released-own said frame output own done-so =
       let u = releasing.used s last said frame output e below (sym own) done-so in
       let q = releasing.reply s last said frame output e below (sym own) done-so in
       let n = releasing.number s last said frame output e below (sym own) done-so in
       rw (releasing.whole s last said frame output e below (sym own) done-so)
-      (frees (numberOn (rowIn s) (serviceAt s e) said frame) (u .valid) (u .serves .directions) refl (rw (← n) (u .above))
+      (frees (numberOn (shapeIn s) (serviceAt s e) said frame) (u .valid) (u .serves .directions) refl (rw (← n) (u .above))
       (own-number 2 said (spiOn said frame) frame e (length output) q u refl ∙ n))
 
 -- ---- every step

@@ -19,35 +19,35 @@ use Rattle.bodies.specs.declared.layout.Layout.{Layout}
 use Rattle.image.proofs.Places.{octet-body, number-body, part-body, key-body, key-part, mark-at}
 use Rattle.keys.specs.Keys as keys
 use Rattle.association.specs.Association.{namingOf}
-use Rattle.promises.specs.Images.{rowIn, spiAt, place, markPlace, serviceAt, kindAt, directionAt, stateAt, spacecraftAt, channelAt, mapAt, windowAt}
+use Rattle.promises.specs.Images.{shapeIn, spiAt, place, markPlace, serviceAt, kindAt, directionAt, stateAt, spacecraftAt, channelAt, mapAt, windowAt}
 use Rattle.promises.specs.Images.{maskAt, keyIdAt, codeAt, wholeBodyAt, isSet, partPlace, keyCountIn, keyAt, idOfKey, stateOfKey, octetsOfKey}
 use Rattle.promises.specs.Images.{keyFrom, keyOctetsAt}
-use Rattle.promises.specs.Versions.{Version, first, second, third, rowOf}
+use Rattle.promises.specs.Versions.{Shape, first, second, third, shapeOf}
 
--- ---- a version's row says what the definitions' layout of it says
+-- ---- a version's shape says what the definitions' layout of it says
 
-pub record Rows (row : Version) (l : Layout) : Type 0 where
-  pub front : 2 + 4 * l .extra ≡ row .front
-  pub body : l .body ≡ row .body
+pub record Shapes (shape : Shape) (l : Layout) : Type 0 where
+  pub front : 2 + 4 * l .extra ≡ shape .front
+  pub body : l .body ≡ shape .body
   pub key : l .key ≡ 16
-  pub mark : l .mark ≡ row .mark
-  pub sets : l .sets ≡ row .sets
-  pub keyPart : l .keys ≡ row .keyPart
+  pub mark : l .mark ≡ shape .mark
+  pub sets : l .sets ≡ shape .sets
+  pub keyPart : l .keys ≡ shape .keyPart
   -- the fields, what a body holds of its key, and the mark, in this order
-  pub holds : 18 ≤ row .mark
-  pub inside : row .mark + 4 ≤ row .body
-  pub held : row .keyPart ≡ false → 48 ≤ row .mark
+  pub holds : 18 ≤ shape .mark
+  pub inside : shape .mark + 4 ≤ shape .body
+  pub held : shape .keyPart ≡ false → 48 ≤ shape .mark
   -- a short body names its key; so bodies of one size have their marks at one place
-  pub short : row .keyPart ≡ ltb (row .body) 48
-  pub tail : row .mark ≡ cond (ltb (row .body) 48) 18 48
+  pub short : shape .keyPart ≡ ltb (shape .body) 48
+  pub tail : shape .mark ≡ cond (ltb (shape .body) 48) 18 48
   -- version and count stand before the contents
-  pub begins : 2 ≤ row .front
+  pub begins : 2 ≤ shape .front
 
-pub rows : (version : ℕ) → Rows (rowOf version) (layoutOf version)
-unfolding rowOf layoutOf
-rows version = by-version (eqb version 3) (eqb version 2)
+pub shapes : (version : ℕ) → Shapes (shapeOf version) (layoutOf version)
+unfolding shapeOf layoutOf
+shapes version = by-version (eqb version 3) (eqb version 2)
   where
-    by-version : (three two : Bool) → Rows (cond three third (cond two second first)) (cond three versionThree (cond two versionTwo versionOne))
+    by-version : (three two : Bool) → Shapes (cond three third (cond two second first)) (cond three versionThree (cond two versionTwo versionOne))
     by-version true two =
         record {
           front = refl;
@@ -94,11 +94,25 @@ rows version = by-version (eqb version 3) (eqb version 2)
           begins = omega arith;
         }
 
+-- versions 1 and 2 have their numbers alike
+pub record Old (shape : Shape) : Type 0 where
+  pub front : shape .front ≡ 2
+  pub body : shape .body ≡ 52
+  pub mark : shape .mark ≡ 48
+  pub keyPart : shape .keyPart ≡ false
+
+pub old-shape : (version : ℕ) → version ≤ 2 → Old (shapeOf version)
+unfolding shapeOf
+old-shape zero h = record { front = refl; body = refl; mark = refl; keyPart = refl }
+old-shape (suc zero) h = record { front = refl; body = refl; mark = refl; keyPart = refl }
+old-shape (suc (suc zero)) h = record { front = refl; body = refl; mark = refl; keyPart = refl }
+old-shape (suc (suc (suc n))) h = absurd (omega arith)
+
 -- ---- the body of an entry
 
 module _ (image : List ℕ) where
-  abbrev here : Rows (rowIn image) (layoutOf (versionOf image))
-  here = rows (versionOf image)
+  abbrev here : Shapes (shapeIn image) (layoutOf (versionOf image))
+  here = shapes (versionOf image)
 
   module _ (i : ℕ) where
     -- where octet j of the body stands, and what is read from there on
@@ -114,7 +128,7 @@ module _ (image : List ℕ) where
         number-body image i j n (rw (here .body) (omega (arith, here .holds, here .inside)))
         ∙ ap (λ (p : ℕ). numberAt p n image) (stands j)
 
-    part-at : (j n : ℕ) → j + n ≤ rowIn image .body → part j n (bodyOf image i) ≡ part (place image i j) n image
+    part-at : (j n : ℕ) → j + n ≤ shapeIn image .body → part j n (bodyOf image i) ≡ part (place image i j) n image
     part-at j n h = part-body image i j n (rw (here .body) h) ∙ ap (λ (p : ℕ). part p n image) (stands j)
 
     pub service-at : serviceOf (bodyOf image i) ≡ serviceAt image i
@@ -152,7 +166,7 @@ module _ (image : List ℕ) where
 
     pub mark-place : markAt image i ≡ markPlace image i
     unfolding markAt
-    mark-place = ap (λ (p : ℕ). bodyAt image i + p) (here .mark) ∙ stands (rowIn image .mark)
+    mark-place = ap (λ (p : ℕ). bodyAt image i + p) (here .mark) ∙ stands (shapeIn image .mark)
 
     pub mark-is : markIn image i ≡ ungray (codeAt image i)
     mark-is = mark-at image i ∙ ap (λ (p : ℕ). ungray (numberAt p 4 image)) mark-place
@@ -165,7 +179,7 @@ module _ (image : List ℕ) where
     set-at = ap₂ _&&_ (here .sets) (ap (λ (n : ℕ). eqb n 3) kind-at)
 
     -- what names the association in an IV
-    pub naming-at : namingOf image i ≡ cond (rowIn image .keyPart) (spiAt image i) 0
+    pub naming-at : namingOf image i ≡ cond (shapeIn image .keyPart) (spiAt image i) 0
     unfolding namingOf
     naming-at = rw (here .keyPart)
 
@@ -202,9 +216,9 @@ module _ (image : List ℕ) where
 
   pub key-at : (i : ℕ) → keyOf image i ≡ keyOctetsAt image i
   unfolding keys.keyUnder
-  key-at i = by-part (rowIn image .keyPart) refl
+  key-at i = by-part (shapeIn image .keyPart) refl
     where
-      by-part : (t : Bool) → rowIn image .keyPart ≡ t
+      by-part : (t : Bool) → shapeIn image .keyPart ≡ t
           → keyOf image i ≡ cond t (octetsOfKey image (keyFrom image (keyIdAt image i) 0 (keyCountIn image))) (part (place image i 16) 32 image)
       by-part true e =
           key-part image i (here .keyPart ∙ e)

@@ -28,9 +28,9 @@ use Rattle.judging.proofs.Answered.{secures, checks, securing-size, checking-si
 use Rattle.link.proofs.Leaving.{left-done, left-refused, handed-result}
 use Rattle.link.proofs.Carried.{counted}
 use Rattle.judging.proofs.Searches.{none-found}
-use Rattle.promises.specs.Images.{rowIn, spiAt, place, wholeBodyAt, Serves}
+use Rattle.promises.specs.Images.{shapeIn, spiAt, place, wholeBodyAt, Serves}
 use Rattle.promises.specs.Isolation.{Standing, SameEntry, both, neither, SameAnswer, Isolation}
-use Rattle.promises.proofs.Fields.{Rows, rows, body-is, key-at, naming-at}
+use Rattle.promises.proofs.Fields.{Shapes, shapes, body-is, key-at, naming-at}
 use Rattle.promises.proofs.Readings.{spi-on}
 use Rattle.promises.proofs.Valids.{rules-valid, agreement-tested, serving, served}
 
@@ -76,19 +76,19 @@ checking-alike x y right said frame room a = cc
 -- ---- the same octets of a body are the same mark, whatever the version; and what names the association is the same
 
 module _ (s t : List ℕ) (i j : ℕ) (body : wholeBodyAt s i ≡ wholeBodyAt t j) where
-  abbrev here : Rows (rowIn s) (layoutOf (versionOf s))
-  here = rows (versionOf s)
+  abbrev here : Shapes (shapeIn s) (layoutOf (versionOf s))
+  here = shapes (versionOf s)
 
-  abbrev there : Rows (rowIn t) (layoutOf (versionOf t))
-  there = rows (versionOf t)
+  abbrev there : Shapes (shapeIn t) (layoutOf (versionOf t))
+  there = shapes (versionOf t)
 
   same-body : bodyOf s i ≡ bodyOf t j
   same-body = body-is s i ∙ body ∙ sym (body-is t j)
 
-  same-size : rowIn s .body ≡ rowIn t .body
-  same-size = sym (length-part (place s i 0) (rowIn s .body) s) ∙ ap length body ∙ length-part (place t j 0) (rowIn t .body) t
+  same-size : shapeIn s .body ≡ shapeIn t .body
+  same-size = sym (length-part (place s i 0) (shapeIn s .body) s) ∙ ap length body ∙ length-part (place t j 0) (shapeIn t .body) t
 
-  same-mark : markIn s i ≡ markIn t j
+  pub same-mark : markIn s i ≡ markIn t j
   unfolding markIn
   same-mark = cc (same-body, here .mark, there .mark, here .tail, there .tail, same-size)
 

@@ -6,6 +6,7 @@ pub mod Fields
 pub mod Forms
 pub mod Isolation
 pub mod Keeps
+pub mod KeyedCases
 pub mod Leaves
 pub mod NoPadding
 pub mod OneBit

@@ -12,11 +12,12 @@ use native.Mathlib.Omega.{arith}
 use borrow.Author.Tests.{eq-eqb, ne-eqb}
 use lib.Dec.{eqb}
 use lib.ListN.{length, take, drop}
-use lib.Seq.{slice}
+use lib.Seq.{slice, getD-drop, getD-take}
+use Rattle.octets.specs.Lists.{octet}
 use Rattle.octets.specs.Numbers.{number, numberAt, bytes}
 use Rattle.octets.specs.Same.{same}
 use Rattle.octets.proofs.Alls.{and-left, and-right}
-use Rattle.octets.proofs.Numbers.{number-bytes}
+use Rattle.octets.proofs.Numbers.{number-bytes, number-same}
 use Rattle.octets.proofs.Reading.{numberAt-add}
 use Rattle.octets.proofs.Sameness.{same-refl, same-eq}
 use Rattle.check_field.specs.CheckField.{checkField, rightField}
@@ -41,7 +42,7 @@ use Rattle.protection.proofs.Wire.{number-read}
 use Rattle.promises.specs.Forms.{formSaid, underMask}
 use Rattle.promises.specs.Frames.{headerSize, checkFieldSize, trailerSize, beforeField, controlOn, dataInClear, fieldSize, securitySize, spiOn, fieldOn, numberOn}
 use Rattle.promises.specs.Frames.{textOn, macOn, goingOut, comingIn, rightMac, FrameRules, RightField, Opens}
-use Rattle.promises.specs.Versions.{Version, namesSpi}
+use Rattle.promises.specs.Versions.{Shape, namesSpi}
 use Rattle.promises.proofs.Forms.{Describes, described, under-mask}
 
 -- ---- header and trailer, and the rules of a frame, answer 3
@@ -179,6 +180,23 @@ module _ (h : Held) (said : Said) (frame : List ℕ) where
       (made (eqb (h .service) 2) (h .mask) (h .key) (k .header frame) (end - 16)
       (under-mask (h .mask) (take (k .header frame) frame) six)))
 
+-- ---- numbers read in the field are read in the frame
+
+pub field-number : (said : Said) (frame : List ℕ) (from n : ℕ) → from + n ≤ 12
+    → numberAt from n (fieldOn 2 said frame) ≡ numberAt (headerSize said frame + (2 + from)) n frame
+field-number said frame from n h =
+    let a : ℕ = headerSize said frame in
+    let b : ℕ = a + 14 in
+    number-same n (drop from (fieldOn 2 said frame)) (drop (a + (2 + from)) frame)
+    (λ i l.
+    let z : a + (2 + (from + i)) ≡ a + (2 + from) + i = omega arith in
+    getD-drop from (fieldOn 2 said frame) i 0
+    ∙ getD-drop 2 (slice a b frame) (from + i) 0
+    ∙ getD-drop a (take b frame) (2 + (from + i)) 0
+    ∙ getD-take b frame (a + (2 + (from + i))) 0 (omega arith)
+    ∙ ap (octet frame) z
+    ∙ sym (getD-drop (a + (2 + from)) frame i 0))
+
 -- ---- its number, under what names the association
 
 module _ (h : Held) (said : Said) (frame : List ℕ) where
@@ -215,26 +233,26 @@ module _ (h : Held) (said : Said) (frame : List ℕ) where
       ∙ ap₂ (λ (x c : ℕ). x * 4294967296 + numberAt c 4 frame)
       (numberAt-add (at + 2) 4 4 frame ∙ ap (λ (b : ℕ). numberAt (at + 2) 4 frame * 4294967296 + numberAt b 4 frame) p) q
 
-  module _ (row : Version) (spi : ℕ) (small : spi < 2 ^ 16) (naming : h .naming ≡ cond (row .keyPart) spi 0) where
-    small-name : (t : Bool) → row .keyPart ≡ t → h .naming < 2 ^ 16
+  module _ (shape : Shape) (spi : ℕ) (small : spi < 2 ^ 16) (naming : h .naming ≡ cond (shape .keyPart) spi 0) where
+    small-name : (t : Bool) → shape .keyPart ≡ t → h .naming < 2 ^ 16
     small-name true e = let name : h .naming ≡ spi = naming ∙ rw e in omega arith
     small-name false e = let name : h .naming ≡ 0 = naming ∙ rw e in omega arith
 
-    unnamed : h .service ≢ 2 → namesSpi row (h .service) ≡ false
-    unnamed other = rw (ne-eqb (h .service) 2 other) (and-false (row .keyPart))
+    unnamed : h .service ≢ 2 → namesSpi shape (h .service) ≡ false
+    unnamed other = rw (ne-eqb (h .service) 2 other) (and-false (shape .keyPart))
 
-    opens-so : namesSpi row (h .service) ≡ false → Opens row (h .service) said spi frame
+    opens-so : namesSpi shape (h .service) ≡ false → Opens shape (h .service) said spi frame
     opens-so no-name =
         record { spis = λ e. absurd (true≢false (sym e ∙ no-name)); zeros = λ e. absurd (true≢false (sym e ∙ no-name)) }
 
     -- a number that a window can take is the one on the frame, behind what the IV begins with
-    pub number-kept : 0 < n → n ≤ greatest → Opens row (h .service) said spi frame × (numberOn row (h .service) said frame ≡ n)
-    number-kept some most = by-service (ℕ-discrete (h .service) 2) (row .keyPart) refl
+    pub number-kept : 0 < n → n ≤ greatest → Opens shape (h .service) said spi frame × (numberOn shape (h .service) said frame ≡ n)
+    number-kept some most = by-service (ℕ-discrete (h .service) 2) (shape .keyPart) refl
       where
         goal : Type 0
-        goal = Opens row (h .service) said spi frame × (numberOn row (h .service) said frame ≡ n)
+        goal = Opens shape (h .service) said spi frame × (numberOn shape (h .service) said frame ≡ n)
 
-        by-name : (two : h .service ≡ 2) → (t : Bool) → row .keyPart ≡ t → Dec (numberAt (at + 2) 4 frame ≡ h .naming) → goal
+        by-name : (two : h .service ≡ 2) → (t : Bool) → shape .keyPart ≡ t → Dec (numberAt (at + 2) 4 frame ≡ h .naming) → goal
         by-name two t e (no other) =
             let here : h .naming < 2 ^ 16 = small-name t e in
             let z : n ≡ 0 = encrypted two here ∙ rw (ne-eqb (numberAt (at + 2) 4 frame) (h .naming) other) in
@@ -244,36 +262,36 @@ module _ (h : Held) (said : Said) (frame : List ℕ) where
             let v : n ≡ numberAt (at + 6) 4 frame * 4294967296 + numberAt (at + 10) 4 frame =
             encrypted two (omega arith) ∙ rw (eq-eqb (numberAt (at + 2) 4 frame) (h .naming) same)
             in
-            let named : namesSpi row (h .service) ≡ true = rw (e, eq-eqb (h .service) 2 two) in
+            let named : namesSpi shape (h .service) ≡ true = rw (e, eq-eqb (h .service) 2 two) in
             (record { spis = λ t. same ∙ name; zeros = λ t. omega arith }, rw named (omega arith))
         by-name two false e (yes same) =
             let name : h .naming ≡ 0 = naming ∙ rw e in
             let v : n ≡ numberAt (at + 6) 4 frame * 4294967296 + numberAt (at + 10) 4 frame =
             encrypted two (omega arith) ∙ rw (eq-eqb (numberAt (at + 2) 4 frame) (h .naming) same)
             in
-            let no-name : namesSpi row (h .service) ≡ false = rw e in
+            let no-name : namesSpi shape (h .service) ≡ false = rw e in
             (opens-so no-name, rw (no-name, eq-eqb (h .service) 2 two) (omega (arith, in-three)))
 
-        by-service : Dec (h .service ≡ 2) → (t : Bool) → row .keyPart ≡ t → goal
+        by-service : Dec (h .service ≡ 2) → (t : Bool) → shape .keyPart ≡ t → goal
         by-service (no other) t e = (opens-so (unnamed other), rw (unnamed other, ne-eqb (h .service) 2 other) (sym (signed other)))
         by-service (yes two) t e = by-name two t e (ℕ-discrete (numberAt (at + 2) 4 frame) (h .naming))
 
-    pub number-right : Opens row (h .service) said spi frame → numberOn row (h .service) said frame ≤ greatest
-        → n ≡ numberOn row (h .service) said frame
-    number-right opens most = by-service (ℕ-discrete (h .service) 2) (row .keyPart) refl
+    pub number-right : Opens shape (h .service) said spi frame → numberOn shape (h .service) said frame ≤ greatest
+        → n ≡ numberOn shape (h .service) said frame
+    number-right opens most = by-service (ℕ-discrete (h .service) 2) (shape .keyPart) refl
       where
-        by-service : Dec (h .service ≡ 2) → (t : Bool) → row .keyPart ≡ t → n ≡ numberOn row (h .service) said frame
+        by-service : Dec (h .service ≡ 2) → (t : Bool) → shape .keyPart ≡ t → n ≡ numberOn shape (h .service) said frame
         by-service (no other) t e = rw (unnamed other, ne-eqb (h .service) 2 other) (signed other)
         by-service (yes two) true e =
             let name : h .naming ≡ spi = naming ∙ rw e in
-            let named : namesSpi row (h .service) ≡ true = rw (e, eq-eqb (h .service) 2 two) in
+            let named : namesSpi shape (h .service) ≡ true = rw (e, eq-eqb (h .service) 2 two) in
             let zero : numberAt (at + 6) 4 frame ≡ 0 = opens .zeros named in
             rw named
             (encrypted two (omega arith)
             ∙ rw (eq-eqb (numberAt (at + 2) 4 frame) (h .naming) (opens .spis named ∙ sym name)) (omega arith))
         by-service (yes two) false e =
             let name : h .naming ≡ 0 = naming ∙ rw e in
-            let no-name : namesSpi row (h .service) ≡ false = rw e in
+            let no-name : namesSpi shape (h .service) ≡ false = rw e in
             let few : numberAt (at + 2) 12 frame ≤ greatest = rw (no-name, eq-eqb (h .service) 2 two) at most in
             let nothing : numberAt (at + 2) 4 frame ≡ 0 = omega (arith, in-three) in
             rw (no-name, eq-eqb (h .service) 2 two)

@@ -20,7 +20,7 @@ use Rattle.judging.proofs.Answered.{Checks, checks}
 use Rattle.link.proofs.Leaving.{left-answer, left-done, handed-result, cut-done}
 use Rattle.judging.proofs.Searches.{finds}
 use Rattle.promises.specs.Frames.{spiOn, numberOn, fieldOn, textOn, comingIn}
-use Rattle.promises.specs.Images.{rowIn, serviceAt, keyOctetsAt}
+use Rattle.promises.specs.Images.{shapeIn, serviceAt, keyOctetsAt}
 use Rattle.promises.proofs.Fields.{service-at, key-at}
 use Rattle.promises.proofs.Readings.{field-on, text-on, coming-in}
 use Rattle.promises.proofs.Used.{Used, only-entry, check-number, check-used}
@@ -47,8 +47,8 @@ module _ (image numbers : List ℕ) (said : Said) (frame output : List ℕ) (e :
       subst (λ (d : ℕ). Used image numbers 2 said (spiOn said frame) frame d (length output) reply) entry
       (check-used right image numbers said frame output reply-done)
 
-  pub number : reply .number ≡ numberOn (rowIn image) (serviceAt image e) said frame
-  number = check-number right image numbers said frame output reply-done ∙ ap (λ (d : ℕ). numberOn (rowIn image) (serviceAt image d) said frame) entry
+  pub number : reply .number ≡ numberOn (shapeIn image) (serviceAt image e) said frame
+  number = check-number right image numbers said frame output reply-done ∙ ap (λ (d : ℕ). numberOn (shapeIn image) (serviceAt image d) said frame) entry
 
   pub whole : checked image numbers said frame output ≡ done reply image numbers output
   unfolding checked checkedAs

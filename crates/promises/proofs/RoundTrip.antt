@@ -28,7 +28,7 @@ use Rattle.link.proofs.Leaving.{left-done, handed-result}
 use Rattle.judging.proofs.Searches.{Finds, finds-at}
 use Rattle.protection.proofs.Wire as wire
 use Rattle.promises.specs.Frames as words
-use Rattle.promises.specs.Images.{rowIn, countIn, spiAt, serviceAt, windowAt, lastAt, ImageRules, Agreeing, InWindow, Serves}
+use Rattle.promises.specs.Images.{shapeIn, countIn, spiAt, serviceAt, windowAt, lastAt, ImageRules, Agreeing, InWindow, Serves}
 use Rattle.promises.specs.RoundTrip.{OtherEnd, Released, RoundTrip}
 use Rattle.promises.proofs.Fields.{service-at, window-at, mask-at, key-at, naming-at}
 use Rattle.promises.proofs.Readings.{form, data-in-clear, spi-on}
@@ -60,7 +60,7 @@ module _ (here sendNumbers there numbers : List ℕ) (e i : ℕ) (said : Said) (
   same-naming : h .service ≡ 2 → g .naming ≡ h .naming
   unfolding associationOf held
   same-naming two =
-      let alike : rowIn there .keyPart ≡ rowIn here .keyPart = other .iv (sym (service-at here e) ∙ two) in
+      let alike : shapeIn there .keyPart ≡ shapeIn here .keyPart = other .iv (sym (service-at here e) ∙ two) in
       naming-at there i ∙ ap₂ (λ (t : Bool) (spi : ℕ). cond t spi 0) alike (other .spi) ∙ sym (naming-at here e)
 
 -- ---- the check of a frame that the receiver's association would have made
@@ -190,7 +190,7 @@ round-trip = record { released = both-ends }
         → e < countIn here
         → spiAt here e ≡ spi
         → OtherEnd said frame here e there numbers i
-        → InWindow (lastAt numbers i) (windowAt there i) (words.numberOn (rowIn here) (serviceAt here e) said (handed x))
+        → InWindow (lastAt numbers i) (windowAt there i) (words.numberOn (shapeIn here) (serviceAt here e) said (handed x))
         → length (words.dataInClear said frame) ≤ length output
         → Released (words.dataInClear said frame) (checked there numbers said (handed x) output)
     both-ends here sendNumbers said spi frame sendOutput there numbers output e i octets done-so below spis other window room =

@@ -34,7 +34,7 @@ use Rattle.protection.proofs.Wire as wire
 use Rattle.promises.specs.Forms.{formSaid}
 use Rattle.promises.specs.Frames as words
 use Rattle.promises.specs.Frames.{SecuredFrom, Opens}
-use Rattle.promises.specs.Images.{rowIn, place, serviceAt, maskAt, keyOctetsAt, lastAt}
+use Rattle.promises.specs.Images.{shapeIn, place, serviceAt, maskAt, keyOctetsAt, lastAt}
 use Rattle.promises.proofs.Fields.{service-at, mask-at, key-at}
 use Rattle.promises.proofs.Readings.{form, header-size, frame-kept, field-kept, control-on, data-in-clear}
 use Rattle.promises.proofs.Readings.{security-size, spi-on, text-on, field-on, mac-right, going-out}
@@ -124,14 +124,14 @@ module _ (image numbers : List ℕ) (said : Said) (spi : ℕ) (frame output : Li
   read-back : numberIn h (kindSaid said) S ≡ lastAt numbers e + 1
   read-back = wire.number-secured h (kindSaid said) (lawful (said .checkField) (said .kind)) spi (lastAt numbers e + 1) frame clear fits small
 
-  named : Opens (rowIn image) (h .service) said spi S × (words.numberOn (rowIn image) (h .service) said S ≡ lastAt numbers e + 1)
+  named : Opens (shapeIn image) (h .service) said spi S × (words.numberOn (shapeIn image) (h .service) said S ≡ lastAt numbers e + 1)
   unfolding associationOf held
   named =
       let k = held-kept image numbers e (used .valid) below said S (omega (arith, read-back)) (omega (arith, read-back, small)) in
-      subst (λ (c : ℕ). Opens (rowIn image) c said spi S × (words.numberOn (rowIn image) c said S ≡ lastAt numbers e + 1))
+      subst (λ (c : ℕ). Opens (shapeIn image) c said spi S × (words.numberOn (shapeIn image) c said S ≡ lastAt numbers e + 1))
       (sym (service-at image e)) (rw spis at (k .0), k .1 ∙ read-back)
 
-  secured-from : length (h .mask) ≡ 6 → SecuredFrom (rowIn image) (h .service) said spi (lastAt numbers e + 1) (h .mask) (h .key) frame S
+  secured-from : length (h .mask) ≡ 6 → SecuredFrom (shapeIn image) (h .service) said spi (lastAt numbers e + 1) (h .mask) (h .key) frame S
   secured-from six =
       let n = lastAt numbers e + 1 in
       let long = wire.length-secured h (kindSaid said) (lawful (said .checkField) (said .kind)) spi n frame clear fits in
@@ -156,7 +156,7 @@ module _ (image numbers : List ℕ) (said : Said) (spi : ℕ) (frame output : Li
         field = field-kept said S (wire.field-right h (kindSaid said) (lawful (said .checkField) (said .kind)) spi n frame clear fits);
       }
 
-  pub made : SecuredFrom (rowIn image) (serviceAt image e) said spi (lastAt numbers e + 1) (maskAt image e) (keyOctetsAt image e) frame
+  pub made : SecuredFrom (shapeIn image) (serviceAt image e) said spi (lastAt numbers e + 1) (maskAt image e) (keyOctetsAt image e) frame
       (handed (secured image numbers said spi frame output))
   unfolding associationOf held
   made =

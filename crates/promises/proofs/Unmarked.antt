@@ -10,9 +10,9 @@ use native.Mathlib.Omega.{arith}
 use lib.ListN.{length}
 use Rattle.octets.specs.Lists.{octet}
 use Rattle.bodies.proofs.Layouts.{ends-before}
-use Rattle.promises.specs.Images.{rowIn, versionIn, countIn, place, markPlace, directionAt}
-use Rattle.promises.specs.Versions.{rowOf}
-use Rattle.promises.proofs.Fields.{rows}
+use Rattle.promises.specs.Images.{shapeIn, versionIn, countIn, place, markPlace, directionAt}
+use Rattle.promises.specs.Versions.{shapeOf}
+use Rattle.promises.proofs.Fields.{shapes}
 
 -- a place outside the mark of every entry
 abbrev pub Unmarked : List ℕ → ℕ → Type 0
@@ -27,18 +27,18 @@ same-itself image = record { size = refl; elsewhere = λ p u. refl }
 
 -- the contents end before the first body
 in-contents : (image : List ℕ) (p : ℕ) → p < 2 + 4 * countIn image → Unmarked image p
-in-contents image p h i below = inl (omega (arith, rows (versionIn image) .begins))
+in-contents image p h i below = inl (omega (arith, shapes (versionIn image) .begins))
 
 -- and in a body the fields stand before the mark
 in-body : (image : List ℕ) (e j : ℕ) → j < 18 → Unmarked image (place image e j)
 in-body image e j h i below = by-place (decLt i e)
   where
-    before : (a b : ℕ) → a ≤ b → rowIn image .body * a ≤ rowIn image .body * b
-    before a b l = mul-le-mul-left (rowIn image .body) l
+    before : (a b : ℕ) → a ≤ b → shapeIn image .body * a ≤ shapeIn image .body * b
+    before a b l = mul-le-mul-left (shapeIn image .body) l
 
     by-place : Dec (i < e) → (place image e j < markPlace image i) ⊎ (markPlace image i + 4 ≤ place image e j)
-    by-place (yes l) = inr (omega (arith, ends-before (rowIn image .body) i e l, rows (versionIn image) .inside))
-    by-place (no l) = inl (omega (arith, rows (versionIn image) .holds, before e i (omega arith)))
+    by-place (yes l) = inr (omega (arith, ends-before (shapeIn image .body) i e l, shapes (versionIn image) .inside))
+    by-place (no l) = inl (omega (arith, shapes (versionIn image) .holds, before e i (omega arith)))
 
 module _ (before image : List ℕ) (same : Same before image) where
   pub version-same : versionIn image ≡ versionIn before
@@ -49,10 +49,10 @@ module _ (before image : List ℕ) (same : Same before image) where
 
   -- everything stands where it stood
   pub place-same : (e j : ℕ) → place image e j ≡ place before e j
-  place-same e j = ap₂ (λ (v k : ℕ). rowOf v .front + 4 * k + rowOf v .body * e + j) version-same count-same
+  place-same e j = ap₂ (λ (v k : ℕ). shapeOf v .front + 4 * k + shapeOf v .body * e + j) version-same count-same
 
   pub mark-place-same : (e : ℕ) → markPlace image e ≡ markPlace before e
-  mark-place-same e = place-same e (rowIn image .mark) ∙ ap (λ (v : ℕ). place before e (rowOf v .mark)) version-same
+  mark-place-same e = place-same e (shapeIn image .mark) ∙ ap (λ (v : ℕ). place before e (shapeOf v .mark)) version-same
 
   pub direction-same : (e : ℕ) → directionAt image e ≡ directionAt before e
   direction-same e =

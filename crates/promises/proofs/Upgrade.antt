@@ -6,30 +6,30 @@ use mathlib.Core.List.{List}
 use native.Mathlib.Omega.{arith}
 use Rattle.octets.specs.Numbers.{numberAt}
 use Rattle.octets.proofs.Numbers.{numberAt-same}
-use Rattle.promises.specs.Images.{rowIn, countIn, codeAt}
+use Rattle.promises.specs.Images.{shapeIn, countIn, codeAt}
 use Rattle.promises.specs.Upgrade.{Upgraded, Upgrading}
-use Rattle.promises.specs.Versions.{first, second, rowOf}
+use Rattle.promises.specs.Versions.{first, second, shapeOf}
 
 module _ (before after : List ℕ) (u : Upgraded before after) where
-  row-before : rowIn before ≡ first
-  unfolding rowOf
-  row-before = ap rowOf (u .from)
+  shape-before : shapeIn before ≡ first
+  unfolding shapeOf
+  shape-before = ap shapeOf (u .from)
 
-  row-after : rowIn after ≡ second
-  unfolding rowOf
-  row-after = ap rowOf (u .to)
+  shape-after : shapeIn after ≡ second
+  unfolding shapeOf
+  shape-after = ap shapeOf (u .to)
 
   same-count : countIn after ≡ countIn before
-  same-count = u .elsewhere 1 (omega arith) (λ i below tm same. let s = rw row-before at same in omega arith)
+  same-count = u .elsewhere 1 (omega arith) (λ i below tm same. let s = rw shape-before at same in omega arith)
 
   same-code : (i : ℕ) → codeAt after i ≡ codeAt before i
   same-code i =
       let at : ℕ = 2 + 4 * countIn before + 52 * i + 48 in
-      rw (row-after, row-before, same-count)
+      rw (shape-after, shape-before, same-count)
       (numberAt-same at 4 after before
       (λ d small.
       u .elsewhere (at + d) (omega arith)
-      (λ j below tm same. let s : at + d ≡ 2 + 4 * countIn before + 52 * j + 6 = rw row-before at same in omega arith)))
+      (λ j below tm same. let s : at + d ≡ 2 + 4 * countIn before + 52 * j + 6 = rw shape-before at same in omega arith)))
 
 pub upgrading : Upgrading
 upgrading =

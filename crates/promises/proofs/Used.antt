@@ -23,7 +23,7 @@ use Rattle.link.proofs.Carried.{counted}
 use Rattle.judging.proofs.Searches.{finds}
 use Rattle.link.proofs.Small.{window-small}
 use Rattle.promises.specs.Frames.{spiOn, numberOn, Opens}
-use Rattle.promises.specs.Images.{rowIn, serviceAt, lastAt, Serves}
+use Rattle.promises.specs.Images.{shapeIn, serviceAt, lastAt, Serves}
 use Rattle.promises.proofs.Fields.{service-at, naming-at}
 use Rattle.promises.proofs.Readings.{spi-on, number-kept, number-right}
 use Rattle.promises.proofs.Valids.{serving}
@@ -66,18 +66,18 @@ module _ (image numbers : List ℕ) (e : ℕ) where
 
     pub held-kept : let n = numberIn (heldIn a) (kindSaid said) frame in
         0 < n → n ≤ greatest
-        → Opens (rowIn image) (serviceAt image e) said (spiOf image e) frame × (numberOn (rowIn image) (serviceAt image e) said frame ≡ n)
+        → Opens (shapeIn image) (serviceAt image e) said (spiOf image e) frame × (numberOn (shapeIn image) (serviceAt image e) said frame ≡ n)
     unfolding associationOf held
     held-kept some most =
-        rw (← service-at image e) (number-kept (heldIn a) said frame (rowIn image) (spiOf image e) small-spi (naming-at image e) some most)
+        rw (← service-at image e) (number-kept (heldIn a) said frame (shapeIn image) (spiOf image e) small-spi (naming-at image e) some most)
 
-    pub held-right : Opens (rowIn image) (serviceAt image e) said (spiOf image e) frame
-        → numberOn (rowIn image) (serviceAt image e) said frame ≤ greatest
-        → numberIn (heldIn a) (kindSaid said) frame ≡ numberOn (rowIn image) (serviceAt image e) said frame
+    pub held-right : Opens (shapeIn image) (serviceAt image e) said (spiOf image e) frame
+        → numberOn (shapeIn image) (serviceAt image e) said frame ≤ greatest
+        → numberIn (heldIn a) (kindSaid said) frame ≡ numberOn (shapeIn image) (serviceAt image e) said frame
     unfolding associationOf held
     held-right opens most =
         rw (← service-at image e)
-        (number-right (heldIn a) said frame (rowIn image) (spiOf image e) small-spi (naming-at image e) (rw (service-at image e) opens)
+        (number-right (heldIn a) said frame (shapeIn image) (spiOf image e) small-spi (naming-at image e) (rw (service-at image e) opens)
         (rw (service-at image e) most))
 
 module _ (image numbers : List ℕ) (said : Said) (spi : ℕ) (frame output : List ℕ) where
@@ -151,7 +151,7 @@ module _ (right : Bool) (image numbers : List ℕ) (said : Said) (frame output :
         roomy = ok .under .roomy;
       }
 
-  pub check-number : q-check .answer ≡ 0 → q-check .number ≡ numberOn (rowIn image) (serviceAt image e-check) said frame
+  pub check-number : q-check .answer ≡ 0 → q-check .number ≡ numberOn (shapeIn image) (serviceAt image e-check) said frame
   unfolding checkingReply checking seen
   check-number z =
       let w = checkingWants said frame in

@@ -37,7 +37,7 @@ use Rattle.promises.specs.Forms.{formOf}
 use Rattle.promises.specs.Images.{place, markPlace, codeAt, lastAt, ServesChannel, BodyRules, KeyRules, ImageRules, sizeIn, Agreeing, Serves}
 use Rattle.promises.specs.Images.{keyCountIn, idOfKey, stateOfKey, HasId, KeyInState}
 use Rattle.promises.proofs.Fields.{service-at, kind-at, direction-at, state-at, spacecraft-at, channel-at, map-at, window-at}
-use Rattle.promises.proofs.Fields.{rows, stands, last-mask-at, mark-is, set-at, part-place, key-count, key-id, key-state, key-id-at}
+use Rattle.promises.proofs.Fields.{shapes, stands, last-mask-at, mark-is, set-at, part-place, key-count, key-id, key-state, key-id-at}
 use Rattle.promises.proofs.Forms.{Describes, described}
 use Rattle.promises.proofs.Readings.{form}
 
@@ -106,7 +106,7 @@ module _ (image : List ℕ) where
   -- the size
   pub size-is : imageSize image ≡ sizeIn image
   unfolding imageSize
-  size-is = rw (rows (versionOf image) .keyPart, part-place image, key-count image)
+  size-is = rw (shapes (versionOf image) .keyPart, part-place image, key-count image)
 
   below-count : (j : ℕ) → j < keyCountIn image → j < count
   below-count j h = omega (arith, key-count image)
@@ -211,7 +211,7 @@ module _ (image : List ℕ) (octets : Octets image) where
         rising = spi-rises image v;
         position = λ i h. v .entry i h .position ∙ sym (add-zero (bodyAt image i)) ∙ stands image i 0;
         body = λ i h. body-rules i (v .entry i h .body);
-        keys = λ has. key-rules (v .keyed (rows (versionOf image) .keyPart ∙ has));
+        keys = λ has. key-rules (v .keyed (shapes (versionOf image) .keyPart ∙ has));
       }
 
 -- ---- and one that obeys the rules is valid
@@ -219,11 +219,11 @@ module _ (image : List ℕ) (octets : Octets image) where
 pub between-tested : (low x high : ℕ) → (low ≤ x) × (x ≤ high) → (leb low x && leb x high) ≡ true
 between-tested low x high h = ap₂ _&&_ (le-leb low x (h .0)) (le-leb x high (h .1))
 
-implied : (a b : Bool) → (a ≡ true → b ≡ true) → (not a || b) ≡ true
+pub implied : (a b : Bool) → (a ≡ true → b ≡ true) → (not a || b) ≡ true
 implied true b h = h refl
 implied false b h = refl
 
-implies : (a b : Bool) → (not a || b) ≡ true → a ≡ true → b ≡ true
+pub implies : (a b : Bool) → (not a || b) ≡ true → a ≡ true → b ≡ true
 implies true b h e = h
 implies false b h e = let z : _≡_ {A = ℕ} 0 1 = cc in absurd (omega arith)
 
@@ -323,7 +323,7 @@ module _ (image : List ℕ) (octets : Octets image) (rules : ImageRules image) w
   keys-ok =
       implied (layout image .keys) _
       (λ has.
-      let k : KeyRules image = rules .keys (sym (rows (versionOf image) .keyPart) ∙ has) in
+      let k : KeyRules image = rules .keys (sym (shapes (versionOf image) .keyPart) ∙ has) in
       let ok : keyPartOk image (partAt image) (keyCount image) ≡ true = part-ok image (k .count) (k .rising) (k .state) in
       ap₂ _&&_
       (ap₂ _&&_

@@ -15,7 +15,7 @@ use Rattle.judging.specs.Said.{Said}
 use Rattle.judging.specs.declared.answers.Answer.{Answer}
 use Rattle.judging.specs.declared.answers.Answer.the-variants as answer
 use Rattle.promises.specs.Forms.{formSaid}
-use Rattle.promises.specs.Images.{ImageRules, Agreeing, InWindow, Serves, rowIn, serviceAt, windowAt, maskAt, keyOctetsAt, lastAt}
+use Rattle.promises.specs.Images.{ImageRules, Agreeing, InWindow, Serves, shapeIn, serviceAt, windowAt, maskAt, keyOctetsAt, lastAt}
 use Rattle.promises.specs.Frames.{FrameRules, RightField, Opens, headerSize, trailerSize, securitySize, spiOn, numberOn, textOn, macOn}
 use Rattle.promises.specs.Frames.{rightMac}
 
@@ -94,7 +94,7 @@ checkingRules image numbers said frame output =
     let under : (ℕ → Type 0) → Type 0 = λ kept. (e : ℕ) → serves e → kept e in
     let least : ℕ → ℕ = λ e. headerSize said frame + securitySize (serviceAt image e) + 1 + 16 + trailerSize said frame in
     let text : ℕ → List ℕ = λ e. textOn (serviceAt image e) said frame in
-    let number : ℕ → ℕ = λ e. numberOn (rowIn image) (serviceAt image e) said frame in
+    let number : ℕ → ℕ = λ e. numberOn (shapeIn image) (serviceAt image e) said frame in
     let right : ℕ → List ℕ = λ e. rightMac (serviceAt image e) said (maskAt image e) (keyOctetsAt image e) frame in
     rule answer.BadImage (ImageRules image)
     (rule answer.BadMarks (Agreeing image numbers)
@@ -104,7 +104,7 @@ checkingRules image numbers said frame output =
     (rule answer.TooShort (under (λ e. least e ≤ length frame))
     (rule answer.NoRoom (under (λ e. length (text e) ≤ length output))
     (rule answer.WrongMac (under (λ e. right e ≡ macOn said frame))
-    (rule answer.OutsideWindow (under (λ e. Opens (rowIn image) (serviceAt image e) said spi frame × InWindow (lastAt numbers e) (windowAt image e) (number e)))
+    (rule answer.OutsideWindow (under (λ e. Opens (shapeIn image) (serviceAt image e) said spi frame × InWindow (lastAt numbers e) (windowAt image e) (number e)))
     noMore))))))))
 
 pub record Answering : Type 0 where

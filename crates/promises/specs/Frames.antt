@@ -17,7 +17,7 @@ use Rattle.gcm.specs.Decryption.{plaintext}
 use Rattle.gcm.specs.Encryption.{ciphertext, tag}
 use Rattle.judging.specs.Said.{Said}
 use Rattle.promises.specs.Forms.{formSaid, underMask}
-use Rattle.promises.specs.Versions.{Version, namesSpi}
+use Rattle.promises.specs.Versions.{Shape, namesSpi}
 
 abbrev pub headerSize : Said → List ℕ → ℕ
 headerSize said frame = formSaid said .header frame
@@ -64,14 +64,14 @@ abbrev pub fieldOn : ℕ → Said → List ℕ → List ℕ
 fieldOn service said frame = drop 2 (securityOn service said frame)
 
 -- the sequence number, read as one big-endian number: the whole field, or the last four octets of an IV that names the association
-abbrev pub numberOn : Version → ℕ → Said → List ℕ → ℕ
-numberOn row service said frame =
-    cond (namesSpi row service) (numberAt (headerSize said frame + 10) 4 frame) (numberAt (headerSize said frame + 2) (fieldSize service) frame)
+abbrev pub numberOn : Shape → ℕ → Said → List ℕ → ℕ
+numberOn shape service said frame =
+    cond (namesSpi shape service) (numberAt (headerSize said frame + 10) 4 frame) (numberAt (headerSize said frame + 2) (fieldSize service) frame)
 
 -- before which the SPI stands in four octets, and four zeros
-pub record Opens (row : Version) (service : ℕ) (said : Said) (spi : ℕ) (frame : List ℕ) : Type 0 where
-  pub spis : namesSpi row service ≡ true → numberAt (headerSize said frame + 2) 4 frame ≡ spi
-  pub zeros : namesSpi row service ≡ true → numberAt (headerSize said frame + 6) 4 frame ≡ 0
+pub record Opens (shape : Shape) (service : ℕ) (said : Said) (spi : ℕ) (frame : List ℕ) : Type 0 where
+  pub spis : namesSpi shape service ≡ true → numberAt (headerSize said frame + 2) 4 frame ≡ spi
+  pub zeros : namesSpi shape service ≡ true → numberAt (headerSize said frame + 6) 4 frame ≡ 0
 
 abbrev pub textEnd : Said → List ℕ → ℕ
 textEnd said frame = beforeTrailer said frame - 16
@@ -113,13 +113,13 @@ pub record RightField (said : Said) (frame : List ℕ) : Type 0 where
 
 -- the length rewritten, the other header octets and the operational control field copied, between them the SPI, the number, the data and its
 -- MAC, and at the end the check field of all that
-pub record SecuredFrom (row : Version) (service : ℕ) (said : Said) (spi n : ℕ) (mask key clear frame : List ℕ) : Type 0 where
+pub record SecuredFrom (shape : Shape) (service : ℕ) (said : Said) (spi n : ℕ) (mask key clear frame : List ℕ) : Type 0 where
   pub size : length frame ≡ length clear + securitySize service + 16
   pub rules : FrameRules said frame 2
   pub header : (j : ℕ) → j < headerSize said clear → octet frame j ≡ formSaid said .securedOctet (length frame) clear j
   pub spis : spiOn said frame ≡ spi
-  pub opens : Opens row service said spi frame
-  pub number : numberOn row service said frame ≡ n
+  pub opens : Opens shape service said spi frame
+  pub number : numberOn shape service said frame ≡ n
   pub text : textOn service said frame ≡ goingOut service key (fieldOn service said frame) (dataInClear said clear)
   pub mac : macOn said frame ≡ rightMac service said mask key frame
   pub control : controlOn said frame ≡ controlOn said clear

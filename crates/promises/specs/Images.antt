@@ -1,7 +1,7 @@
 -- Document 01, 'The image' and 'Managed numbers', and document 02, requests 2, 5 and 9, in the octets of an image: where each field of an
 -- entry stands, what a valid image is, when numbers agree with it, and which entry serves a frame. The promises speak of an image in these
 -- words and not in those of the definitions that they are about, so that a definition which reads another octet or drops a rule breaks a
--- promise. The numbers that differ from version to version are those of its row (`Versions`).
+-- promise. The numbers that differ from version to version are those of its shape (`Versions`).
 -- Assumes nothing.
 use Prim.Native.Nat.{ℕ, zero, suc, _+_, _*_, _/_, _%_, _^_, _≤_, _<_}
 use mathlib.Core.Path.{_≡_}
@@ -14,15 +14,15 @@ use Rattle.octets.specs.Numbers.{numberAt}
 use Rattle.octets.specs.Xor.{_⊕_}
 use Rattle.judging.specs.Said.{Said}
 use Rattle.promises.specs.Forms.{formOf, formSaid}
-use Rattle.promises.specs.Versions.{Version, rowOf}
+use Rattle.promises.specs.Versions.{Shape, shapeOf}
 
 -- ---- version and contents
 
 abbrev pub versionIn : List ℕ → ℕ
 versionIn image = octet image 0
 
-abbrev pub rowIn : List ℕ → Version
-rowIn image = rowOf (versionIn image)
+abbrev pub shapeIn : List ℕ → Shape
+shapeIn image = shapeOf (versionIn image)
 
 abbrev pub countIn : List ℕ → ℕ
 countIn image = octet image 1
@@ -37,11 +37,11 @@ positionAt image i = numberAt (2 + 4 * i + 2) 2 image
 
 -- where its octet j stands: at 2 + 4k + 52i + j in versions 1 and 2, at 6 + 4k + 22i + j in version 3
 abbrev pub place : List ℕ → ℕ → ℕ → ℕ
-place image i j = rowIn image .front + 4 * countIn image + rowIn image .body * i + j
+place image i j = shapeIn image .front + 4 * countIn image + shapeIn image .body * i + j
 
 -- where the four octets of its mark begin
 abbrev pub markPlace : List ℕ → ℕ → ℕ
-markPlace image i = place image i (rowIn image .mark)
+markPlace image i = place image i (shapeIn image .mark)
 
 abbrev pub serviceAt : List ℕ → ℕ → ℕ
 serviceAt image i = octet image (place image i 0)
@@ -79,11 +79,11 @@ abbrev pub codeAt : List ℕ → ℕ → ℕ
 codeAt image i = numberAt (markPlace image i) 4 image
 
 abbrev pub wholeBodyAt : List ℕ → ℕ → List ℕ
-wholeBodyAt image i = part (place image i 0) (rowIn image .body) image
+wholeBodyAt image i = part (place image i 0) (shapeIn image .body) image
 
 -- whether its channel octet is a set of eight bits, the lowest for channel 0: from version 2 on, of kind 3
 abbrev pub isSet : List ℕ → ℕ → Bool
-isSet image i = rowIn image .sets && eqb (kindAt image i) 3
+isSet image i = shapeIn image .sets && eqb (kindAt image i) 3
 
 -- it serves a channel: the one that it holds, or one whose bit is 1 in its set
 pub record ServesChannel (image : List ℕ) (i channel : ℕ) : Type 0 where
@@ -101,7 +101,7 @@ partPlace image = place image (countIn image) 0
 
 -- an image without a key part has no keys
 abbrev pub keyCountIn : List ℕ → ℕ
-keyCountIn image = cond (rowIn image .keyPart) (octet image (partPlace image)) 0
+keyCountIn image = cond (shapeIn image .keyPart) (octet image (partPlace image)) 0
 
 -- where key j stands
 abbrev pub keyAt : List ℕ → ℕ → ℕ
@@ -136,7 +136,7 @@ keyFrom image id j (suc n) = cond (eqb (idOfKey image j) id) j (keyFrom image id
 -- the key of entry i: the 32 octets of the key whose ID its body holds, or those in its body
 abbrev pub keyOctetsAt : List ℕ → ℕ → List ℕ
 keyOctetsAt image i =
-    cond (rowIn image .keyPart) (octetsOfKey image (keyFrom image (keyIdAt image i) 0 (keyCountIn image))) (part (place image i 16) 32 image)
+    cond (shapeIn image .keyPart) (octetsOfKey image (keyFrom image (keyIdAt image i) 0 (keyCountIn image))) (part (place image i 16) 32 image)
 
 -- ---- what a valid image is
 
@@ -165,7 +165,7 @@ pub record KeyRules (image : List ℕ) : Type 0 where
 
 -- exactly 2 + 56k octets in versions 1 and 2, and 7 + 26k + 35q in version 3
 abbrev pub sizeIn : List ℕ → ℕ
-sizeIn image = partPlace image + cond (rowIn image .keyPart) (1 + 35 * keyCountIn image) 0
+sizeIn image = partPlace image + cond (shapeIn image .keyPart) (1 + 35 * keyCountIn image) 0
 
 pub record ImageRules (image : List ℕ) : Type 0 where
   pub version : (1 ≤ versionIn image) × (versionIn image ≤ 3)
@@ -175,7 +175,7 @@ pub record ImageRules (image : List ℕ) : Type 0 where
   pub rising : (i j : ℕ) → i < j → j < countIn image → spiAt image i < spiAt image j
   pub position : (i : ℕ) → i < countIn image → positionAt image i ≡ place image i 0
   pub body : (i : ℕ) → i < countIn image → BodyRules image i
-  pub keys : rowIn image .keyPart ≡ true → KeyRules image
+  pub keys : shapeIn image .keyPart ≡ true → KeyRules image
 
 -- ---- the managed numbers
 

@@ -13,7 +13,7 @@ use lib.ListN.{length, set, drop}
 use Rattle.octets.specs.Lists.{octet, Octets}
 use Rattle.link.specs.Calls.{Left, handed, loaded, secured, securedCut, checked, checkedCut}
 use Rattle.judging.specs.Said.{Said}
-use Rattle.promises.specs.Images.{rowIn, countIn, spiAt, markPlace, serviceAt, maskAt, keyOctetsAt, codeAt, coded, lastAt, ImageRules, Agreeing}
+use Rattle.promises.specs.Images.{shapeIn, countIn, spiAt, markPlace, serviceAt, maskAt, keyOctetsAt, codeAt, coded, lastAt, ImageRules, Agreeing}
 use Rattle.promises.specs.Frames.{spiOn, numberOn, fieldOn, textOn, comingIn, SecuredFrom}
 
 -- a valid image, which differs from the one before in the mark of entry e at most, and there is the mark m
@@ -47,12 +47,12 @@ pub record Loaded (image : List ℕ) (x : Left) : Type 0 where
 pub record Sending (image numbers : List ℕ) (said : Said) (spi : ℕ) (frame output : List ℕ) (e : ℕ) (x : Left) : Type 0 where
   pub leaves : Leaves image numbers output e (lastAt numbers e + 1) x
   pub out :
-      SecuredFrom (rowIn image) (serviceAt image e) said spi (lastAt numbers e + 1) (maskAt image e) (keyOctetsAt image e) frame (handed x)
+      SecuredFrom (shapeIn image) (serviceAt image e) said spi (lastAt numbers e + 1) (maskAt image e) (keyOctetsAt image e) frame (handed x)
   pub cut : (j : ℕ) → MarkAlone image e (lastAt numbers e / 64 + min j (x .stores)) (securedCut image numbers said spi frame output j)
 
 -- a check under entry e: the number on the frame, and what comes out is the data in clear
 pub record Checking (image numbers : List ℕ) (said : Said) (frame output : List ℕ) (e : ℕ) (x : Left) : Type 0 where
-  pub leaves : Leaves image numbers output e (numberOn (rowIn image) (serviceAt image e) said frame) x
+  pub leaves : Leaves image numbers output e (numberOn (shapeIn image) (serviceAt image e) said frame) x
   pub out :
       let service = serviceAt image e in
       handed x ≡ comingIn service (keyOctetsAt image e) (fieldOn service said frame) (textOn service said frame)

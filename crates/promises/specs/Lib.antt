@@ -4,6 +4,7 @@ pub mod Forms
 pub mod Frames
 pub mod Images
 pub mod Isolation
+pub mod KeyedCases
 pub mod Leaves
 pub mod NoPadding
 pub mod OneBit

@@ -13,7 +13,7 @@ use lib.ListN.{length}
 use Rattle.link.specs.Calls.{Left, handed, secured, checked}
 use Rattle.judging.specs.Said.{Said}
 use Rattle.octets.specs.Lists.{Octets}
-use Rattle.promises.specs.Images.{rowIn, countIn, spiAt, serviceAt, kindAt, directionAt, stateAt, spacecraftAt, mapAt}
+use Rattle.promises.specs.Images.{shapeIn, countIn, spiAt, serviceAt, kindAt, directionAt, stateAt, spacecraftAt, mapAt}
 use Rattle.promises.specs.Images.{windowAt, maskAt, keyOctetsAt, lastAt, ServesChannel, ImageRules, Agreeing, InWindow}
 use Rattle.promises.specs.Forms.{formSaid}
 use Rattle.promises.specs.Frames.{dataInClear, numberOn}
@@ -27,7 +27,7 @@ pub record OtherEnd (said : Said) (frame here : List ℕ) (e : ℕ) (there numbe
   pub service : serviceAt there i ≡ serviceAt here e
   pub kind : kindAt there i ≡ kindAt here e
   pub key : keyOctetsAt there i ≡ keyOctetsAt here e
-  pub iv : serviceAt here e ≡ 2 → rowIn there .keyPart ≡ rowIn here .keyPart
+  pub iv : serviceAt here e ≡ 2 → shapeIn there .keyPart ≡ shapeIn here .keyPart
   pub mask : maskAt there i ≡ maskAt here e
   pub spacecraft : spacecraftAt there i ≡ spacecraftAt here e
   pub channel : ServesChannel there i (formSaid said .channel frame)
@@ -48,6 +48,6 @@ pub record RoundTrip : Type 0 where
       → e < countIn here
       → spiAt here e ≡ spi
       → OtherEnd said frame here e there numbers i
-      → InWindow (lastAt numbers i) (windowAt there i) (numberOn (rowIn here) (serviceAt here e) said (handed x))
+      → InWindow (lastAt numbers i) (windowAt there i) (numberOn (shapeIn here) (serviceAt here e) said (handed x))
       → length (dataInClear said frame) ≤ length output
       → Released (dataInClear said frame) (checked there numbers said (handed x) output)

@@ -14,7 +14,7 @@ use lib.ListN.{length}
 use Rattle.octets.specs.Lists.{octet, Octets}
 use Rattle.link.specs.Calls.{Left, handed, loaded, secured, securedCut, checked, checkedCut}
 use Rattle.judging.specs.Said.{Said}
-use Rattle.promises.specs.Images.{rowIn, countIn, spiAt, markPlace, serviceAt, ImageRules}
+use Rattle.promises.specs.Images.{shapeIn, countIn, spiAt, markPlace, serviceAt, ImageRules}
 use Rattle.promises.specs.Frames.{spiOn, numberOn}
 
 -- ---- a run
@@ -62,10 +62,10 @@ unfoldable pub shows : ℕ → State → Step → List Shown
 shows e x (load any) = restart ∷ []
 shows e x (send said spi frame output) =
     let y = secured (x .image) (x .numbers) said spi frame output in
-    cond (doneUnder x e spi y) (sent (numberOn (rowIn (x .image)) (serviceAt (x .image) e) said (handed y)) ∷ []) []
+    cond (doneUnder x e spi y) (sent (numberOn (shapeIn (x .image)) (serviceAt (x .image) e) said (handed y)) ∷ []) []
 shows e x (check said frame output) =
     let y = checked (x .image) (x .numbers) said frame output in
-    cond (doneUnder x e (spiOn said frame) y) (released (numberOn (rowIn (x .image)) (serviceAt (x .image) e) said frame) ∷ []) []
+    cond (doneUnder x e (spiOn said frame) y) (released (numberOn (shapeIn (x .image)) (serviceAt (x .image) e) said frame) ∷ []) []
 shows e x (sendCut said spi frame output j any) = restart ∷ []
 shows e x (checkCut said frame output j any) = restart ∷ []
 

@@ -1,3 +1,4 @@
 pub mod Sendings
 pub mod Releases
 pub mod Managings
+pub mod SharedKeys

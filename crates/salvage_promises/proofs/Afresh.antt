@@ -5,7 +5,7 @@ use mathlib.Core.Bool.{true, _&&_}
 use mathlib.Core.List.{List, _∷_, _++_}
 use Prim.Native.Nat.{ℕ, suc, _+_, _-_, _*_, _<_}
 use native.Mathlib.Decide.{ℕ-discrete}
-use native.Mathlib.Nat.{add-assoc}
+use native.Mathlib.Nat.{add-assoc, add-zero}
 use native.Mathlib.Omega.{arith}
 use borrow.Author.Tests.{le-leb, lt-ltb, eq-eqb, ne-eqb}
 use lib.Dec.{ltb}
@@ -21,7 +21,7 @@ use Rattle.octets.proofs.Rules.{tab-ext}
 use Rattle.bodies.specs.Body.{bodyIn, bodyOk}
 use Rattle.bodies.specs.Layout.{layoutOf}
 use Rattle.image.specs.Image.{versionOf, countOf, entryPlace, spiOf, positionOf, spiBefore, layout, bodyPlace, bodyAt, bodyOf}
-use Rattle.image.specs.Image.{imageSize, laidOut, entryOk, validImage}
+use Rattle.image.specs.Image.{partAt, imageSize, laidOut, entryOk, keysOk, validImage}
 use Rattle.writing.specs.Text.{endToEnd}
 use Rattle.writing.proofs.Ends.{end-long, end-octet, end-octets}
 use Rattle.salvage_entries.specs.Kept.{bodyThere, keepable, keptAmong, isKept, oldIndex}
@@ -94,7 +94,7 @@ module _ (x : List ℕ) (ok : Taken x) where
       let e : length (endToEnd (newCount x) (newEntry x) ++ endToEnd (newCount x) (newBody x)) ≡ newCount x * 4 + newCount x * 52 =
       length-append (endToEnd (newCount x) (newEntry x)) (endToEnd (newCount x) (newBody x)) ∙ ap₂ _+_ long-contents long-bodies
       in
-      sym (new-place (newCount x) ∙ omega (arith, e))
+      sym (rw (ok .keys) (add-zero (newPlace x (newCount x)) ∙ new-place (newCount x) ∙ omega (arith, e)))
 
   pub new-spi : (j : ℕ) → j < newCount x → spiOf (newImage x) j ≡ spiOf x (oldIndex x j)
   unfolding newEntry
@@ -169,11 +169,18 @@ module _ (x : List ℕ) (ok : Taken x) where
   new-rules : (j : ℕ) → j < newCount x → (entryOk (newImage x) j && bodyOk (versionOf (newImage x)) (bodyOf (newImage x) j)) ≡ true
   new-rules j h = ap₂ _&&_ (new-entry j h) (rw (new-body j h, new-version) (good-at j h .body))
 
+  -- there is no key part
+  new-keys : keysOk (newImage x) ≡ true
+  unfolding keysOk
+  new-keys = rw (ap (λ (v : ℕ). layoutOf v .keys) new-version ∙ ok .keys) refl
+
   pub new-valid : validImage (newImage x) ≡ true
   unfolding validImage
   new-valid =
-      ap₂ _&&_ new-laid
-      (all-every (countOf (newImage x)) (λ j. entryOk (newImage x) j && bodyOk (versionOf (newImage x)) (bodyOf (newImage x) j)) (λ j h. new-rules j (rw new-count at h)))
+      ap₂ _&&_
+      (ap₂ _&&_ new-laid
+      (all-every (countOf (newImage x)) (λ j. entryOk (newImage x) j && bodyOk (versionOf (newImage x)) (bodyOf (newImage x) j)) (λ j h. new-rules j (rw new-count at h))))
+      new-keys
 
   -- and its numbers are octets
   pub new-octets : Octets x → Octets (newImage x)

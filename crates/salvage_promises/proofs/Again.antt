@@ -2,25 +2,25 @@
 -- at most 64 above it; so what the second run shows goes on from there.
 -- Assumes nothing.
 use Prim.Native.Nat.{ℕ, _+_, _*_, _/_, _<_}
-use mathlib.Core.Path.{_≡_, refl, sym, ap, _∙_}
+use mathlib.Core.Path.{_≡_, refl, sym, ap, ap₂, _∙_}
 use mathlib.Core.Bool.{true}
 use mathlib.Core.List.{List, _∷_, _++_}
 use native.Mathlib.Omega.{arith}
 use Rattle.octets.specs.Lists.{octet, part, Octets}
-use Rattle.octets.specs.Numbers.{numberAt}
-use Rattle.octets.proofs.Numbers.{numberAt-part}
 use Rattle.octets.proofs.Parts.{octet-part}
 use Rattle.image.specs.Image.{validImage, markIn}
-use Rattle.marks.specs.Gray.{ungray}
 use Rattle.numbers.proofs.LoadedNumbers.{agreed}
 use Rattle.link.specs.Calls.{loaded}
-use Rattle.promises.specs.Images.{countIn, directionAt, positionAt, place, codeAt, lastAt, wholeBodyAt}
+use Rattle.promises.specs.Images.{versionIn, shapeIn, countIn, directionAt, positionAt, place, lastAt, wholeBodyAt}
+use Rattle.promises.specs.Versions.{shapeOf}
 use Rattle.promises.specs.Runs.{Step, State, Shown, restart, kept, after, ran, shows, trace, SentAfter, SentRise, ReleasedAfter, ReleasedRise}
 use Rattle.promises.specs.Runs.{sentIn, releasedIn}
-use Rattle.promises.proofs.Fields.{mark-is}
+use Rattle.promises.proofs.Fields.{shapes, old-shape}
+use Rattle.promises.proofs.Isolation.{same-mark}
 use Rattle.promises.proofs.Keeps.{Inv, Keeps, loaded-image, loaded-last, load-inv}
 use Rattle.promises.proofs.Runs.{SentOn, ReleasedOn, sent-rise, released-rise, sent-from, sent-rising, released-from, released-rising}
 use Rattle.promises.proofs.Runs.{next-below, ran-keeps, sent-once, released-once}
+use Rattle.promises.proofs.Unmarked.{Same, same-itself, version-same}
 use Rattle.promises.proofs.Valids.{rules-kept, rules-valid}
 use Rattle.salvage_image.specs.Salvage.{salvagedImage}
 use Rattle.salvage_promises.specs.Salvaging.{KeptAs}
@@ -44,18 +44,11 @@ module _ (z : State) (inv : Inv z) (passed : validImage (z .image) ≡ true) (i 
       second : (t : List ℕ) (e : ℕ) → octet (wholeBodyAt t e) 2 ≡ directionAt t e
       second t e =
           let at : place t e 0 + 2 ≡ place t e 2 = omega arith in
-          octet-part (place t e 0) 52 t 2 (omega arith) ∙ ap (octet t) at
+          let s = shapes (versionIn t) in
+          octet-part (place t e 0) (shapeIn t .body) t 2 (omega (arith, s .holds, s .inside)) ∙ ap (octet t) at
 
   marked : markIn y j ≡ markIn (z .image) i
-  marked =
-      mark-is y j
-      ∙ ap ungray (sym (code y j) ∙ ap (λ (b : List ℕ). numberAt 48 4 b) same ∙ code (z .image) i)
-      ∙ sym (mark-is (z .image) i)
-    where
-      code : (t : List ℕ) (e : ℕ) → numberAt 48 4 (wholeBodyAt t e) ≡ codeAt t e
-      code t e =
-          let at : place t e 0 + 48 ≡ place t e 48 = omega arith in
-          numberAt-part (place t e 0) 52 48 4 t (omega arith) ∙ ap (λ (p : ℕ). numberAt p 4 t) at
+  marked = same-mark y (z .image) j i same
 
   now : lastAt (z .numbers) i / 64 ≡ markIn (z .image) i
   now = agreed (z .image) (z .numbers) (inv .good passed .agree) i below
@@ -105,7 +98,7 @@ module _ (z : State) (inv : Inv z) (passed : validImage (z .image) ≡ true) (i 
 
 pub again : Again
 unfolding ran after trace shows SentRise ReleasedRise sentIn releasedIn
-again image numbers steps x any later octets rules octetsX accepted fate account i j below f undamaged =
+again image numbers steps x any later octets rules two octetsX accepted fate account i j below f undamaged =
     let start : State = kept (loaded image numbers) in
     let z : State = ran start steps in
     let inv : Inv start = load-inv image numbers octets in
@@ -118,11 +111,16 @@ again image numbers steps x any later octets rules octetsX accepted fate account
     let y : List ℕ = salvagedImage x in
     let a : KeptAs x i y j = account .kept i j f in
     let at : positionAt (z .image) i ≡ place (z .image) i 0 = rules-kept (z .image) (k .inv .octets) passed .position i there in
+    let begun-so : Same image (start .image) = rw (loaded-image image numbers) (same-itself image) in
+    let version : versionIn (z .image) ≡ versionIn image =
+    version-same (start .image) (z .image) (k .same) ∙ version-same image (start .image) begun-so
+    in
+    let long : shapeIn (z .image) .body ≡ 52 = ap (λ (v : ℕ). shapeOf v .body) version ∙ old-shape (versionIn image) two .body in
     let same : wholeBodyAt y j ≡ wholeBodyAt (z .image) i =
     a .body
     ∙ ap (λ (p : ℕ). part p 52 x) (undamaged .position)
     ∙ undamaged .body
-    ∙ ap (λ (p : ℕ). part p 52 (z .image)) at
+    ∙ ap₂ (λ (p n : ℕ). part p n (z .image)) at (sym long)
     in
     let r =
     both-rise z (k .inv) passed i there y (salvaged-octets x octetsX accepted) (salvaged-valid x accepted) j (a .entry) same any later start steps

@@ -16,6 +16,7 @@ use Rattle.octets.proofs.Alls.{and-left, and-right}
 use Rattle.octets.proofs.Numbers.{numberAt-part}
 use Rattle.octets.proofs.Rules.{length-tab, octet-tab}
 use Rattle.bodies.specs.Body.{bodyIn, bodyOk}
+use Rattle.bodies.specs.Layout.{layoutOf}
 use Rattle.bodies.proofs.ValidBodies.{valid-body}
 use Rattle.image.specs.Image.{versionOf, countOf, entryPlace, spiOf, positionOf, layout, bodyAt, bodyOf}
 use Rattle.writing.proofs.Ends.{end-same}
@@ -27,11 +28,11 @@ use Rattle.salvage_entries.proofs.Ranks.{new-inside, old-new, old-kept, new-old
 use Rattle.salvage_image.specs.Salvage.{newCount, newImage}
 use Rattle.salvage_image.proofs.Sizes.{Taken}
 use Rattle.salvage_lines.specs.Lines.{lineAbout, stays, lineOf, newLines}
-use Rattle.promises.specs.Images.{place, wholeBodyAt}
-use Rattle.promises.proofs.Fields.{stands, body-is}
+use Rattle.promises.specs.Images.{shapeIn, place, markPlace, wholeBodyAt}
+use Rattle.promises.proofs.Fields.{shapes, stands, body-is}
 use Rattle.promises.proofs.Valids.{body-rules, body-ok}
 use Rattle.salvage_promises.specs.Salvaging.{Fate, dropped, keptAs, Keepable, KeptAs, lineFor, Account}
-use Rattle.salvage_promises.proofs.Afresh.{new-count, new-spi, new-position, new-body}
+use Rattle.salvage_promises.proofs.Afresh.{new-version, new-count, new-spi, new-position, new-body}
 
 abbrev pub fateOf : List ℕ → ℕ → Fate
 fateOf x i = cond (isKept x i) (keptAs (newIndex x i)) dropped
@@ -161,9 +162,13 @@ module _ (x : List ℕ) (octets : Octets x) (ok : Taken x) where
         spi = new-spi x ok j inside ∙ ap (spiOf x) (old-new x i k);
         body = body;
         mark =
-            let here : place (newImage x) j 48 ≡ place (newImage x) j 0 + 48 = omega arith in
+            let n = shapeIn (newImage x) .body in
+            let s = shapes (versionOf (newImage x)) in
+            let long : n ≡ 52 = sym (s .body) ∙ ap (λ (v : ℕ). layoutOf v .body) (new-version x ok) ∙ ok .body in
+            let marked : shapeIn (newImage x) .mark ≡ 48 = s .tail ∙ rw long refl in
+            let here : markPlace (newImage x) j ≡ place (newImage x) j 0 + 48 = omega (arith, marked) in
             ap (λ (at : ℕ). numberAt at 4 (newImage x)) here
-            ∙ sym (numberAt-part (place (newImage x) j 0) 52 48 4 (newImage x) (omega arith))
+            ∙ sym (numberAt-part (place (newImage x) j 0) n 48 4 (newImage x) (omega (arith, long)))
             ∙ ap (λ (b : List ℕ). numberAt 48 4 b) body
             ∙ numberAt-part (positionOf x i) 52 48 4 x (omega arith);
       }

@@ -4,7 +4,7 @@
 use mathlib.Core.Path.{_≡_, refl, ap₂, _∙_}
 use mathlib.Core.Bool.{Bool, true, false, _&&_, _||_}
 use mathlib.Core.List.{List, []}
-use Prim.Native.Nat.{ℕ, zero, suc, _≤_}
+use Prim.Native.Nat.{ℕ, zero, suc, _+_, _*_, _≤_}
 use native.Mathlib.Omega.{arith}
 use borrow.Author.Tests.{le-leb, ne-eqb}
 use lib.Dec.{eqb}
@@ -16,7 +16,8 @@ use Rattle.salvage_image.specs.Salvage.{salvageable, salvagedImage}
 use Rattle.salvage_image.proofs.Sizes.{Taken, taken, image-taken, image-refused}
 use Rattle.salvage_lines.specs.Lines.{salvageLines}
 use Rattle.salvage_lines.proofs.LineParts.{lines-taken, lines-refused}
-use Rattle.promises.specs.Images.{versionIn, ImageRules}
+use Rattle.promises.specs.Images.{versionIn, countIn, ImageRules}
+use Rattle.promises.proofs.Fields.{old-shape}
 use Rattle.promises.proofs.Valids.{rules-kept, rules-valid}
 use Rattle.salvage_promises.specs.Salvaging.{Accepted, Salvaging}
 use Rattle.salvage_promises.proofs.Afresh.{new-version, new-valid, new-octets}
@@ -71,8 +72,10 @@ salvaged-octets x octets a = let e = accepted-taken x a in rw (image-taken x e) 
 
 come-back : (x : List ℕ) → Octets x → ImageRules x → versionIn x ≤ 2 → (salvagedImage x ≡ x) × (salvageLines x ≡ [])
 come-back x octets rules two =
+    let o = old-shape (versionIn x) two in
+    let size : length x ≡ 2 + 56 * countIn x = rules .size ∙ rw (o .front, o .body, o .keyPart) (omega arith) in
     let a : Accepted x = record {
-      size = (omega (arith, rules .size), omega (arith, rules .size, rules .count));
+      size = (omega arith, omega (arith, rules .count));
       version = (rules .version .0, two);
       count = rules .count;
     } in

@@ -17,7 +17,7 @@ use Rattle.octets.proofs.Parts.{tab-self, tab-add}
 use Rattle.octets.proofs.Reading.{numberAt-two}
 use Rattle.octets.proofs.Rules.{length-tab, octet-tab, tab-ext}
 use Rattle.bodies.specs.Body.{bodyIn, bodyOk}
-use Rattle.image.specs.Image.{versionOf, countOf, entryPlace, spiOf, positionOf, layout, bodyAt, bodyOf, imageSize}
+use Rattle.image.specs.Image.{versionOf, countOf, entryPlace, spiOf, positionOf, layout, bodyAt, bodyOf, partAt, imageSize}
 use Rattle.image.specs.Image.{laidOut, entryOk, validImage}
 use Rattle.image.proofs.ValidImages.{Valid, valid, valid-ruled, spi-rises}
 use Rattle.writing.specs.Text.{endToEnd}

@@ -66,3 +66,7 @@ fieldedLongSecured =
 -- TM of channel 1
 abbrev pub otherFrame : List ℕ
 otherFrame = 0x01 ∷ 0xB2 ∷ 0x00 ∷ 0x00 ∷ 0x00 ∷ 0x00 ∷ 0xBB ∷ []
+
+-- and of channel 2
+abbrev pub secondFrame : List ℕ
+secondFrame = 0x01 ∷ 0xB4 ∷ 0x00 ∷ 0x00 ∷ 0x00 ∷ 0x00 ∷ 0xBB ∷ []
