@@ -757,7 +757,8 @@ MANAGEMENT = {
 
 
 # Crates of theorems that show that no promise is empty: one box in the picture of the layers.
-WITNESSES = {"witness_frames", "round_trip_witnesses", "answer_witnesses", "bit_witnesses", "run_witnesses", "isolation_witnesses"}
+WITNESSES = {"witness_frames", "round_trip_witnesses", "answer_witnesses", "bit_witnesses", "run_witnesses", "isolation_witnesses",
+             "secrecy_witnesses"}
 
 
 def beside(p, own, module, arrows, bent):
@@ -866,7 +867,8 @@ def layers():
         "promises": (538, 14, 172, FREE, "theorems alone"),
         "lent_calls": (24, 15, 506, FREE, "the calls over what C lends"),
         "link_c": (24, 16, 506, FREE, "the C interface"),
-        "witnesses": (538, 15, 172, FREE, "not empty: six crates"),
+        "secrecy": (538, 15, 172, FREE, "theorems alone"),
+        "witnesses": (538, 16, 172, FREE, "not empty: seven crates"),
     }
     programs = {
         "link_cases": (7, "runs the calls"),
@@ -878,7 +880,7 @@ def layers():
         "lines": (1, "lines of text for them"),
     }
     arrows = [
-        ("witnesses", "promises", 624), ("promises", "link", 624), ("link_c", "lent_calls", 277), ("lent_calls", "securing", 137), ("lent_calls", "checking", 370), ("lent_calls", "lent", 505),
+        ("witnesses", "secrecy", 624), ("secrecy", "promises", 624), ("promises", "link", 624), ("link_c", "lent_calls", 277), ("lent_calls", "securing", 137), ("lent_calls", "checking", 370), ("lent_calls", "lent", 505),
         ("securing", "verdicts", 137), ("checking", "verdicts", 310), ("checking", "admission", 420), ("link", "judging", 624),
         ("lent", "judging", 500), ("admission", "judging", 417), ("verdicts", "judging", 352), ("verdicts", "sealing", 99),
         ("verdicts", "opening", 257), ("judging", "protection", 525), ("sealing", "security_header", 99),

@@ -25,11 +25,11 @@ use Rattle.judging.specs.Said.{Said, kindSaid}
 use Rattle.judging.specs.Wants.{checkingWants}
 use Rattle.judging.proofs.Answered.{heldBy, Fronts}
 use Rattle.link.specs.Calls.{Left, loaded, comparison, checkingEntry, checked}
-use Rattle.promises.specs.Images.{rowIn, serviceAt, maskAt, keyOctetsAt, Serves}
+use Rattle.promises.specs.Images.{shapeIn, serviceAt, maskAt, keyOctetsAt, Serves}
 use Rattle.promises.specs.Frames.{spiOn, fieldOn, macOn, rightMac}
 use Rattle.promises.specs.Runs.{State, kept}
 use Rattle.promises.proofs.Answers.{serves, held-service, security, text, mac}
-use Rattle.promises.proofs.Fields.{rows, stands, key-place, key-count}
+use Rattle.promises.proofs.Fields.{shapes, stands, key-place, key-count}
 use Rattle.promises.proofs.Readings.{header-size, trailer-size, frame-kept, field-kept, field-tested, spi-on, field-on}
 use Rattle.promises.proofs.Valids.{rules-kept, agreement}
 use Rattle.secrecy.specs.Secrecy.{keysIn, keyPlace, ButKeys, Given, Step, load, check, BeforeField, BeforeMac, Alike, SameTold, Untold, Secrecy}
@@ -40,18 +40,18 @@ use Rattle.secrecy.proofs.SameImages.{keysOf, keyAt, OnlyKeys}
 -- ---- where keys stand
 
 module _ (image : List ℕ) where
-  row-keys : layout image .keys ≡ rowIn image .keyPart
-  row-keys = rows (versionOf image) .keyPart
+  shape-keys : layout image .keys ≡ shapeIn image .keyPart
+  shape-keys = shapes (versionOf image) .keyPart
 
   keys-in : keysOf image ≡ keysIn image
-  keys-in = cc (row-keys, key-count image)
+  keys-in = cc (shape-keys, key-count image)
 
   key-stands : (k : ℕ) → keyAt image k ≡ keyPlace image k
   key-stands k = by-part (layout image .keys) refl
     where
       by-part : (t : Bool) → layout image .keys ≡ t → keyAt image k ≡ keyPlace image k
-      by-part true e = rw (e, ← row-keys, e) (omega (arith, key-place image k))
-      by-part false e = rw (e, ← row-keys, e) (omega (arith, stands image k 16, rows (versionOf image) .key))
+      by-part true e = rw (e, ← shape-keys, e) (omega (arith, key-place image k))
+      by-part false e = rw (e, ← shape-keys, e) (omega (arith, stands image k 16, shapes (versionOf image) .key))
 
   -- a place without an octet of a key
   outside : (p : ℕ) → ((k : ℕ) → k < keysOf image → (p < keyAt image k) ⊎ (keyAt image k + 32 ≤ p))

@@ -15,7 +15,7 @@ use lib.ListN.{length}
 use Rattle.octets.specs.Lists.{octet, Octets}
 use Rattle.judging.specs.Said.{Said}
 use Rattle.link.specs.Calls.{Left, loaded, checked}
-use Rattle.promises.specs.Images.{rowIn, countIn, place, keyCountIn, keyAt, serviceAt, maskAt, keyOctetsAt, ImageRules, Agreeing, Serves}
+use Rattle.promises.specs.Images.{shapeIn, countIn, place, keyCountIn, keyAt, serviceAt, maskAt, keyOctetsAt, ImageRules, Agreeing, Serves}
 use Rattle.promises.specs.Frames.{headerSize, trailerSize, securitySize, spiOn, fieldOn, textOn, macOn, rightMac, FrameRules, RightField}
 use Rattle.promises.specs.Runs.{State, kept}
 
@@ -23,10 +23,10 @@ use Rattle.promises.specs.Runs.{State, kept}
 
 -- the keys of an image, and where the 32 octets of key k begin: those of a key part, each behind its ID and state, or one in each body
 abbrev pub keysIn : List ℕ → ℕ
-keysIn image = cond (rowIn image .keyPart) (keyCountIn image) (countIn image)
+keysIn image = cond (shapeIn image .keyPart) (keyCountIn image) (countIn image)
 
 abbrev pub keyPlace : List ℕ → ℕ → ℕ
-keyPlace image k = cond (rowIn image .keyPart) (keyAt image k + 3) (place image k 16)
+keyPlace image k = cond (shapeIn image .keyPart) (keyAt image k + 3) (place image k 16)
 
 pub record ButKeys (image other : List ℕ) : Type 0 where
   pub size : length other ≡ length image
