@@ -9,7 +9,7 @@ use native.Mathlib.Omega.{arith}
 use borrow.Author.Tests.{eqb-true, eq-eqb, le-leb, ltb-true, ltb-false, not-true, not-false}
 use lib.Dec.{leb, ltb}
 use lib.ListN.{length, length-drop}
-use Rattle.octets.specs.Lists.{octet, Octets}
+use Rattle.octets.specs.Lists.{Octets}
 use Rattle.octets.specs.Numbers.{numberAt}
 use Rattle.octets.proofs.Alls.{and-right}
 use Rattle.bodies.specs.Body.{stateOf}
@@ -29,7 +29,7 @@ use Rattle.procedures.specs.declared.procedure.Called.{Called}
 use Rattle.procedures.specs.declared.procedure.Called.the-variants as calls
 use Rattle.procedures.specs.declared.procedure.Procedure as code
 use Rattle.procedures.specs.declared.procedure.Procedure.the-variants as procedure
-use Rattle.procedures.proofs.Calling.{called-so, called-parts, called-measured, called-sized, called-long, called-tag}
+use Rattle.procedures.proofs.Calling.{called-so, called-parts, called-measured, called-sized, called-long}
 use Rattle.commands.specs.Commanding.{callsNone, entryNamed, isNothing, testsAt, commandReply, commanded}
 use Rattle.commands.proofs.Done.{spi-found, spi-missing}
 use Rattle.promises.specs.Answers.{Rules, rule, noMore}

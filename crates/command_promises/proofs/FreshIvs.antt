@@ -1,14 +1,14 @@
 -- No IV goes out twice under one key. The number of a frame and, from version 3 on, its SPI are read in its IV; two frames with the same are
 -- of the same entry, and so they are where no two entries have the same key; and the number of an entry only rises.
 -- Assumes nothing.
-use Prim.Native.Nat.{ℕ, _+_, _*_, _≤_, _<_}
+use Prim.Native.Nat.{ℕ, _+_, _≤_, _<_}
 use mathlib.Core.Path.{_≡_, refl, sym, ap, ap₂, subst, _∙_}
 use mathlib.Core.Bool.{Bool, true, false, cond, true≢false}
 use mathlib.Core.List.{List, [], _∷_, _++_}
 use native.Mathlib.Omega.{arith}
-use lib.ListN.{length, set}
+use lib.ListN.{length}
 use lib.Seq.{getD-set-same}
-use Rattle.octets.specs.Lists.{octet, part, Octets}
+use Rattle.octets.specs.Lists.{octet, part}
 use Rattle.octets.specs.Numbers.{numberAt}
 use Rattle.octets.proofs.Parts.{part-same}
 use Rattle.image.specs.Image.{validImage}
@@ -17,7 +17,7 @@ use Rattle.link.specs.Calls.{handed, loaded, secured}
 use Rattle.promises.specs.Frames.{Opens, numberOn}
 use Rattle.promises.specs.Images.{shapeIn, versionIn, countIn, spiAt, place, serviceAt, keyIdAt, keyCountIn, octetsOfKey, keyFrom, keyOctetsAt, lastAt}
 use Rattle.promises.specs.Runs as frames
-use Rattle.promises.specs.Runs.{State, kept, begun}
+use Rattle.promises.specs.Runs.{State, kept}
 use Rattle.promises.specs.Versions.{Shape, shapeOf, namesSpi}
 use Rattle.promises.proofs.Fields.{shapes}
 use Rattle.promises.proofs.Keeps.{Inv, loaded-image, load-inv}

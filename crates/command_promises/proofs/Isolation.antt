@@ -158,9 +158,6 @@ module _ (s t c : List ℕ) (same : SameKeys s t c) where
   unfolding keyInState
   in-same state id = by-known (hasKey s id) refl
     where
-      at : ℕ
-      at = keyWith s id
-
       by-known : (b : Bool) → hasKey s id ≡ b
           → (hasKey s id && eqb (keyStateAt s (partAt s) (keyWith s id)) state) ≡ (hasKey t id && eqb (keyStateAt t (partAt t) (keyWith t id)) state)
       by-known true e =
@@ -236,7 +233,6 @@ module _ (s t c : List ℕ) (same : SameKeys s t c) where
           answer = rw (has-same (asked.keyNamed (valueOf c)), free) refl;
           given = λ z. record { stores = refl; size = refl; result = refl; long = refl };
         }
-
     unnaming procedure.Inventory is e =
         let lowest = asked.firstNamed (valueOf c) in
         let highest = asked.lastNamed (valueOf c) in

@@ -12,9 +12,8 @@ use Rattle.octets.specs.Numbers.{bytes}
 use Rattle.marks.specs.Gray.{gray}
 use Rattle.marks.specs.Stores.{stored}
 use Rattle.marks.specs.declared.plans.Store.{Store}
-use Rattle.bodies.specs.Body.{stateOf}
 use Rattle.keys.specs.Keys.{keyStatePlace}
-use Rattle.image.specs.Image.{versionOf, bodyAt, bodyOf, markIn, partAt, keyWith, validImage}
+use Rattle.image.specs.Image.{versionOf, bodyAt, markIn, partAt, keyWith, validImage}
 use Rattle.image.proofs.ValidImages.{valid}
 use Rattle.numbers.specs.Stores.{storesFor, afterStores}
 use Rattle.association.specs.Search.{withSpi}

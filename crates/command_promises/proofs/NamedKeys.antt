@@ -2,7 +2,7 @@
 -- that it serves no operational body. Each is shown both ways, in a valid image.
 -- Assumes nothing.
 use Prim.Native.Nat.{ℕ, _<_}
-use mathlib.Core.Path.{_≡_, refl, sym, ap, ap₂, _∙_}
+use mathlib.Core.Path.{_≡_, refl, sym, ap₂, _∙_}
 use mathlib.Core.Bool.{Bool, true, false, cond, not, _&&_}
 use mathlib.Core.List.{List}
 use native.Mathlib.Omega.{arith}
@@ -10,7 +10,7 @@ use borrow.Author.Tests.{eqb-true, eq-eqb, ltb-true, lt-ltb}
 use lib.Dec.{eqb}
 use lib.ListN.{set}
 use lib.Seq.{getD-set-other}
-use Rattle.octets.specs.Lists.{octet, all}
+use Rattle.octets.specs.Lists.{octet}
 use Rattle.octets.proofs.Alls.{and-left, and-right, all-at, all-every}
 use Rattle.bodies.specs.Body.{stateOf}
 use Rattle.image.specs.Image.{versionOf, countOf, layout, bodyOf, partAt, keyCount, keyWith, keyIn, keyIdIn, validImage}
@@ -21,7 +21,7 @@ use Rattle.numbers.specs.Numbers.{agrees}
 use Rattle.numbers.proofs.LoadedNumbers.{agreed, agreeing}
 use Rattle.commands.proofs.Turning.{Turns, marks-stay}
 use Rattle.named_keys.specs.NamedKeys.{hasKey, keyThere, keyActive, idleAt, unserved, freed}
-use Rattle.promises.specs.Images.{shapeIn, keyCountIn, partPlace, HasId, KeyThere, KeyInState}
+use Rattle.promises.specs.Images.{shapeIn, partPlace, HasId, KeyThere, KeyInState}
 use Rattle.promises.proofs.Fields.{shapes, state-at, key-id-at, key-count}
 use Rattle.promises.proofs.Valids.{implied, implies, key-there, key-found, found-key, key-in-state}
 use Rattle.command_promises.specs.Rows.{NeedsKey, NeedsActive, Serving}

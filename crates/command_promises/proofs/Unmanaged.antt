@@ -71,7 +71,6 @@ same-turned before id state known =
 
 -- ---- what stays where it is
 
--- of bodies of the same size an earlier one ends before a later one; and what stands first in it stands before it
 module _ (image : List ℕ) where
   abbrev r : Shapes (shapeIn image) (layoutOf (versionIn image))
   r = shapes (versionIn image)

@@ -2,12 +2,12 @@
 use judging::Answer;
 use judging::Grant;
 use judging::Verdict;
+use plans::plan_of;
 use procedures::Procedure;
 use procedures::allowed;
 use procedures::key_known;
 use procedures::key_ready;
 use procedures::new_number;
-use procedures::plan_of;
 use replies::reply_size;
 use replies::state_at;
 ghost use Rattle.judging.specs.Verdicts.{Judged};

@@ -4,7 +4,6 @@ use Prim.Native.Nat.{ℕ, _+_, _*_}
 use mathlib.Core.Path.{_≡_, ap, _∙_}
 use mathlib.Core.List.{List}
 use native.Mathlib.Omega.{arith}
-use Rattle.octets.specs.Numbers.{numberAt}
 use Rattle.octets.proofs.Numbers.{numberAt-same}
 use Rattle.promises.specs.Images.{shapeIn, countIn, codeAt}
 use Rattle.promises.specs.Upgrade.{Upgraded, Upgrading}

@@ -34,7 +34,7 @@ use Rattle.image.proofs.ValidImages.{Keyed, Valid, valid, spi-rises}
 use Rattle.judging.specs.Wants.{wanted}
 use Rattle.judging.specs.Said.{Said, kindSaid}
 use Rattle.promises.specs.Forms.{formOf}
-use Rattle.promises.specs.Images.{place, markPlace, codeAt, lastAt, ServesChannel, BodyRules, KeyRules, ImageRules, sizeIn, Agreeing, Serves}
+use Rattle.promises.specs.Images.{markPlace, codeAt, lastAt, ServesChannel, BodyRules, KeyRules, ImageRules, sizeIn, Agreeing, Serves}
 use Rattle.promises.specs.Images.{keyCountIn, idOfKey, stateOfKey, HasId, KeyInState}
 use Rattle.promises.proofs.Fields.{service-at, kind-at, direction-at, state-at, spacecraft-at, channel-at, map-at, window-at}
 use Rattle.promises.proofs.Fields.{shapes, stands, last-mask-at, mark-is, set-at, part-place, key-count, key-id, key-state, key-id-at}
@@ -122,7 +122,7 @@ module _ (image : List ℕ) where
     keyIndex image at count id,
     key-there id (ltb-true (keyIndex image at count id) count (search and-left)),
     sym (key-state image (keyIndex image at count id))
-    ∙ eqb-true (keyStateAt image at (keyIndex image at count id)) state (search and-right),
+        ∙ eqb-true (keyStateAt image at (keyIndex image at count id)) state (search and-right),
   )
 
   -- and where the IDs rise, the only one

@@ -16,7 +16,7 @@ use Rattle.promises.specs.Runs.{State, send, restart, sent, begun}
 use Rattle.promises.proofs.Computing.{everything}
 use Rattle.command_promises.specs.Cases.{space, forKey}
 use Rattle.command_promises.specs.FreshIvs.{GoesOut}
-use Rattle.command_promises.specs.Runs.{Step, Shown, call, command, saw, told, ran, after, shows, trace, shownOf}
+use Rattle.command_promises.specs.Runs.{Step, call, command, saw, told, ran, after, shows, trace, shownOf}
 
 -- SPIs 9 and 10, both of service 2, both name key 5
 abbrev shared : List ℕ

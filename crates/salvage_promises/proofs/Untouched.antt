@@ -10,15 +10,15 @@ use native.Mathlib.Omega.{arith}
 use borrow.Author.Tests.{le-leb, lt-ltb, le-ltb, eq-eqb, ne-eqb}
 use lib.Dec.{eqb, ltb}
 use lib.ListN.{length}
-use Rattle.octets.specs.Lists.{octet, part, tab, all, Octets}
+use Rattle.octets.specs.Lists.{octet, part, tab, Octets}
 use Rattle.octets.specs.Numbers.{numberAt, bytes}
-use Rattle.octets.proofs.Alls.{and-right, all-at}
+use Rattle.octets.proofs.Alls.{and-right}
 use Rattle.octets.proofs.Parts.{tab-self, tab-add}
 use Rattle.octets.proofs.Reading.{numberAt-two}
 use Rattle.octets.proofs.Rules.{length-tab, octet-tab, tab-ext}
 use Rattle.bodies.specs.Body.{bodyIn, bodyOk}
 use Rattle.image.specs.Image.{versionOf, countOf, entryPlace, spiOf, positionOf, layout, bodyAt, bodyOf, partAt, imageSize}
-use Rattle.image.specs.Image.{laidOut, entryOk, validImage}
+use Rattle.image.specs.Image.{entryOk, validImage}
 use Rattle.image.proofs.ValidImages.{Valid, valid, valid-ruled, spi-rises}
 use Rattle.writing.specs.Text.{endToEnd}
 use Rattle.writing.proofs.Ends.{end-same, end-empty, end-part}

@@ -1,8 +1,8 @@
 -- `octet_in` is right because the body stands where the definition has it.
 -- Assumes nothing.
 use borrow.Author.Needs.{needs}
-use Rattle.procedures.proofs.plans.octet_in.Statement.{statement}
-use Rattle.procedures.proofs.plans.octet_in.Tie as tie
+use Rattle.plans.proofs.octet_in.Statement.{statement}
+use Rattle.plans.proofs.octet_in.Tie as tie
 
 returns : tie.Need-returns
 returns c = rw (c .body-at .ensures .0)

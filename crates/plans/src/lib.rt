@@ -1,5 +1,4 @@
-// What a command stores, before any of it is stored.
-use crate::procedure::Procedure;
+// Document 02, requests 5 and 9: what a command stores, as a plan, before any of it is stored. Nothing is changed.
 use bodies::KEYED;
 use bodies::OPERATIONAL;
 use bodies::STATE;
@@ -20,13 +19,14 @@ use marks::Store;
 use numbers::plan_for;
 use octets::octet_at;
 use octets::two_at;
+use procedures::Procedure;
 ghost use mathlib.Core.Path.{_≡_};
 ghost use mathlib.Core.List.{[], _∷_};
 ghost use Prim.Native.Nat.{_<_};
 ghost use Rattle.marks.specs.Stores.{storesOf};
 ghost use Rattle.bodies.specs.Layout.{statePlace, mostBody};
 ghost use Rattle.command_form.specs.Form.{keyNamed};
 ghost use Rattle.procedures.specs.Procedures.{rekey, setWindow, octetIn, keyStateIn, procedureIs};
 
 // One octet of the body of an entry.
 fn octet_in(image: &[u8], entry: u8, place: usize, value: u8) -> Store

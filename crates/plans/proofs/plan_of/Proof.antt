@@ -4,8 +4,8 @@ use mathlib.Core.Path.{ap}
 use Rattle.marks.specs.Stores.{steps, storesOf}
 use Rattle.marks.specs.declared.plans.Plan.{Plan}
 use borrow.Author.Needs.{needs}
-use Rattle.procedures.proofs.plans.plan_of.Statement.{statement}
-use Rattle.procedures.proofs.plans.plan_of.Tie as tie
+use Rattle.plans.proofs.plan_of.Statement.{statement}
+use Rattle.plans.proofs.plan_of.Tie as tie
 
 returns : tie.Need-returns
 returns c = rw (c .before .enum-told .given .1) (c .move-to .ensures)

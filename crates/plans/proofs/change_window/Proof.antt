@@ -6,10 +6,10 @@ use Prim.Native.Nat.{_+_}
 use Rattle.bodies.specs.Layout.{windowPlace}
 use Rattle.marks.specs.Stores.{steps}
 use Rattle.marks.specs.declared.plans.Store.{Store}
 use Rattle.procedures.specs.Procedures.{octetIn}
 use borrow.Author.Needs.{needs}
-use Rattle.procedures.proofs.plans.change_window.Statement.{statement}
-use Rattle.procedures.proofs.plans.change_window.Tie as tie
+use Rattle.plans.proofs.change_window.Statement.{statement}
+use Rattle.plans.proofs.change_window.Tie as tie
 
 returns : tie.Need-returns
 unfolding steps

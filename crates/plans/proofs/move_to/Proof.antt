@@ -5,8 +5,8 @@ use mathlib.Core.List.{[], _∷_}
 use Rattle.marks.specs.Stores.{steps}
 use Rattle.marks.specs.declared.plans.Store.{Store}
 use borrow.Author.Needs.{needs}
-use Rattle.procedures.proofs.plans.move_to.Statement.{statement}
-use Rattle.procedures.proofs.plans.move_to.Tie as tie
+use Rattle.plans.proofs.move_to.Statement.{statement}
+use Rattle.plans.proofs.move_to.Tie as tie
 
 returns : tie.Need-returns
 unfolding steps

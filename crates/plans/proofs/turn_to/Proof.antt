@@ -7,8 +7,8 @@ use Rattle.keys.specs.Keys.{keyStatePlace}
 use Rattle.image.specs.Image.{keyWith}
 use Rattle.marks.specs.Stores.{steps}
 use borrow.Author.Needs.{needs}
-use Rattle.procedures.proofs.plans.turn_to.Statement.{statement}
-use Rattle.procedures.proofs.plans.turn_to.Tie as tie
+use Rattle.plans.proofs.turn_to.Statement.{statement}
+use Rattle.plans.proofs.turn_to.Tie as tie
 
 returns : tie.Need-returns
 unfolding steps

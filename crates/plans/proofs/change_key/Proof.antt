@@ -8,10 +8,10 @@ use Rattle.bodies.specs.declared.layout.Layout.{Layout}
 use Rattle.image.specs.Image.{layout}
 use Rattle.marks.specs.Stores.{steps}
 use Rattle.marks.specs.declared.plans.Store.{Store}
 use Rattle.procedures.specs.Procedures.{octetIn}
 use borrow.Author.Needs.{needs}
-use Rattle.procedures.proofs.plans.change_key.Statement.{statement}
-use Rattle.procedures.proofs.plans.change_key.Tie as tie
+use Rattle.plans.proofs.change_key.Statement.{statement}
+use Rattle.plans.proofs.change_key.Tie as tie
 
 returns : tie.Need-returns
 unfolding steps
