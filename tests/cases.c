@@ -3,6 +3,7 @@
  * and under desk 2, which owns nothing in an image of version 1, each case is answered as with an SPI that is not there (10). Each call is also
  * compared with the independent reading (support/both.h). */
 #include "support/both.h"
+#include "support/hexadecimal.h"
 
 #include <stdio.h>
 #include <stdlib.h>
@@ -18,18 +19,6 @@ static void expect(bool is_right, const char *name, const char *what)
         fprintf(stderr, "cases: %s: %s\n", name, what);
         exit(1);
     }
-}
-
-static size_t octets_of(const char *hex, uint8_t *octets)
-{
-    size_t length = 0;
-    for (; hex[0] != '\0'; hex += hex[0] == ' ' ? 1 : 2) {
-        if (hex[0] != ' ') {
-            char pair[] = {hex[0], hex[1], '\0'};
-            octets[length++] = (uint8_t)strtoul(pair, NULL, 16);
-        }
-    }
-    return length;
 }
 
 static bool starts_with(const uint8_t *octets, const char *hex)

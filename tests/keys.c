@@ -6,6 +6,7 @@
  *   keys [--seed S] [--count N] [--from W] */
 #include "support/both.h"
 #include "support/commands.h"
+#include "support/hexadecimal.h"
 #include "support/options.h"
 #include "support/worlds.h"
 
@@ -30,18 +31,6 @@ static struct outcome run(struct input *input)
 {
     calls++;
     return both_run(&test_random, input);
-}
-
-static size_t octets_of(const char *hex, uint8_t *octets)
-{
-    size_t length = 0;
-    for (; hex[0] != '\0'; hex += hex[0] == ' ' ? 1 : 2) {
-        if (hex[0] != ' ') {
-            char pair[] = {hex[0], hex[1], '\0'};
-            octets[length++] = (uint8_t)strtoul(pair, NULL, 16);
-        }
-    }
-    return length;
 }
 
 /* ---- images, octet by octet ---- */
