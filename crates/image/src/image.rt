@@ -25,6 +25,9 @@ ghost use Rattle.image.specs.Image.{versionOf, countOf, entryPlace, spiO
 ghost use Rattle.image.specs.Image.{layout, markAt, markIn, partAt, keyCount, keyWith, keyIn, keyIdIn, keyOf, imageSize, laidOut, spiBefore, entryOk};
 ghost use Rattle.image.specs.Image.{lastOk, keyedOk, keysOk, validImage};
 
+// The SPI of the last entry of the contents, which is that of the key part.
+const PART_SPI: u16 = 65535;
+
 // The octets of the longest image that there may be, one of version 4 with all its entries and keys.
 pub const LONGEST_IMAGE: usize = 3111;
 
@@ -198,7 +201,7 @@ fn last_ok(image: &[u8]) -> bool
     ensures { λ r. ⌜ r ≡ lastOk (now (image .entry)) ⌝ }
 {
     let count = count_of(image);
-    (spi_of(image, count) == 65535) & (position_of(image, count) == part_at(image))
+    (spi_of(image, count) == PART_SPI) & (position_of(image, count) == part_at(image))
 }
 
 // An operational body names a key that is active; another may name any ID.

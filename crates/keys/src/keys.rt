@@ -12,6 +12,9 @@ pub const ACTIVE: u8 = 1;
 
 pub const DEACTIVATED: u8 = 2;
 
+// The most keys that a key part may have.
+const MOST_KEYS: u8 = 64;
+
 // The octets of a key: its ID, its state, and the key.
 const ID_LENGTH: usize = 2;
 
@@ -108,5 +111,5 @@ pub fn key_part_ok(image: &[u8], at: u16, count: u8) -> bool
         ok = ok & key_ok(image, at, k);
         k += 1;
     }
-    (count <= 64) & ok
+    (count <= MOST_KEYS) & ok
 }

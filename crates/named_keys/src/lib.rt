@@ -12,8 +12,7 @@ use image::key_with;
 use image::version_of;
 use keys::ACTIVE;
 ghost use mathlib.Core.Path.{_≡_};
-ghost use Rattle.named_keys.specs.NamedKeys.{hasKey, keyThere, keyActive, idleAt, freed};
-ghost use Rattle.named_keys.specs.NamedKeys.{unserved as NamedKeys·unserved};
+ghost use Rattle.named_keys.specs.NamedKeys.{hasKey, keyThere, keyActive, idleAt, unserved, freed};
 
 pub fn has_key(image: &[u8], id: u16) -> bool
     ensures { λ r. ⌜ r ≡ hasKey (now (image .entry)) id ⌝ }
@@ -43,8 +42,8 @@ fn idle_at(image: &[u8], id: u16, index: u8) -> bool
 }
 
 // All bodies are tested, also behind one that does.
-fn unserved(image: &[u8], id: u16) -> bool
-    ensures { λ r. ⌜ r ≡ NamedKeys·unserved (now (image .entry)) id ⌝ }
+fn all_idle(image: &[u8], id: u16) -> bool
+    ensures { λ r. ⌜ r ≡ unserved (now (image .entry)) id ⌝ }
 {
     let count = count_of(image);
     let mut ok = true;
@@ -60,5 +59,5 @@ fn unserved(image: &[u8], id: u16) -> bool
 pub fn key_freed(image: &[u8], id: u16) -> bool
     ensures { λ r. ⌜ r ≡ freed (now (image .entry)) id ⌝ }
 {
-    key_in(image, ACTIVE, id) & unserved(image, id)
+    key_in(image, ACTIVE, id) & all_idle(image, id)
 }

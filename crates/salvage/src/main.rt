@@ -3,7 +3,7 @@
 use libc::STDERR_FILENO;
 use libc::STDIN_FILENO;
 use libc::STDOUT_FILENO;
-use salvage_image::LONGEST_IMAGE;
+use salvage_image::LONGEST_SALVAGED;
 use salvage_image::write_image;
 use salvage_lines::LONGEST_LINES;
 use salvage_lines::write_lines;
@@ -15,7 +15,7 @@ const MOST_READ: usize = 1795;
 fn main() {
     let mut damaged = [0u8; MOST_READ];
     let count = io::read_full(STDIN_FILENO, &mut damaged);
-    let mut image = [0u8; LONGEST_IMAGE];
+    let mut image = [0u8; LONGEST_SALVAGED];
     let salvaged = write_image(&damaged[..count], &mut image);
     let mut lines = [0u8; LONGEST_LINES];
     let told = write_lines(&damaged[..count], &mut lines);

@@ -7,7 +7,7 @@ use lines::print_octets;
 use lines::read_line;
 use lines::read_octets;
 use octets::octet_at;
-use salvage_image::LONGEST_IMAGE;
+use salvage_image::LONGEST_SALVAGED;
 use salvage_image::write_image;
 use salvage_lines::LONGEST_LINES;
 use salvage_lines::write_lines;
@@ -20,7 +20,7 @@ fn print_lines(damaged: &[u8]) {
 }
 
 fn print_image(damaged: &[u8]) {
-    let mut image = [0u8; LONGEST_IMAGE];
+    let mut image = [0u8; LONGEST_SALVAGED];
     let salvaged = write_image(damaged, &mut image);
     print_octets(b"", text_in(salvaged, &image));
     print(b"\n");

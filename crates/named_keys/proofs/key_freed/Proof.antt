@@ -5,7 +5,7 @@ use Rattle.named_keys.proofs.key_freed.Statement.{statement}
 use Rattle.named_keys.proofs.key_freed.Tie as tie
 
 returns : tie.Need-returns
-returns c = rw (c .unserved .ensures, c .before .key-in .ensures)
+returns c = rw (c .all-idle .ensures, c .before .key-in .ensures)
 
 pub key-freed-spec : {M : Type 1} → statement M
 key-freed-spec = tie.close (tie.spec (λ c κs. search needs) (λ c κs. search needs) returns)
