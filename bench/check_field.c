@@ -80,6 +80,8 @@ static void make_run(struct run *run, bool is_on_ground, uint8_t service, uint8_
 // The microseconds of a frame secured and of one checked.
 static void take_turn(struct run *run, double times[2])
 {
+    static xistalvo_notes notes;
+    static uint8_t events[XISTALVO_EVENTS_LENGTH];
     times[0] = times[1] = 0;
     for (int i = 0; i < FRAMES; i++) {
         double before = now();
@@ -88,7 +90,7 @@ static void take_turn(struct run *run, double times[2])
             SPI, run->clear, run->clear_length, run->secured, ROOM);
         double between = now();
         uint64_t received = (run->is_on_ground ? xistalvo_ground_check : xistalvo_check)(
-            run->there.image, run->there.image_length, run->there.numbers, XISTALVO_NUMBERS, XISTALVO_KEY_OFFICE, XISTALVO_TM, run->check_field,
+            &notes, events, sizeof events, run->there.image, run->there.image_length, run->there.numbers, XISTALVO_NUMBERS, XISTALVO_KEY_OFFICE, XISTALVO_TM, run->check_field,
             run->secured, XISTALVO_LENGTH(sent), run->released, ROOM);
         times[0] += (between - before) / FRAMES;
         times[1] += (now() - between) / FRAMES;

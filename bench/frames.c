@@ -138,9 +138,11 @@ static uint64_t secure(struct link *l, uint32_t *numbers)
 
 static uint64_t check(struct link *l, uint32_t *numbers)
 {
-    return (is_on_ground ? xistalvo_ground_check : xistalvo_check)(l->there, XISTALVO_IMAGE_LENGTH(l->entries), numbers, XISTALVO_NUMBERS,
-                                                                   XISTALVO_KEY_OFFICE, l->kind, l->check_field, l->secured, l->secured_length,
-                                                                   l->released, MOST);
+    static xistalvo_notes notes;
+    static uint8_t events[XISTALVO_EVENTS_LENGTH];
+    return (is_on_ground ? xistalvo_ground_check : xistalvo_check)(&notes, events, sizeof events, l->there, XISTALVO_IMAGE_LENGTH(l->entries), numbers,
+                                                                   XISTALVO_NUMBERS, XISTALVO_KEY_OFFICE, l->kind, l->check_field, l->secured,
+                                                                   l->secured_length, l->released, MOST);
 }
 
 static double secure_frames(struct link *l, size_t count)

@@ -1,8 +1,9 @@
-/* The link security module, called from C or C++: load an image, secure a frame, check a frame, manage associations, cut a call short.
+/* The link security module, called from C or C++: load an image, secure a frame, check a frame, manage associations, cut a call short; and notes of
+ * what came of checks and commands.
  *
  * The module's scope paper decides what it does; what it decides is said here in short, so that this file can be used alone.
  *
- * Memory. The module keeps nothing between calls: image and managed numbers are the caller's. Every pointer goes with the length of the
+ * Memory. The module keeps nothing between calls: image, managed numbers and notes are the caller's. Every pointer goes with the length of the
  * range that it lends for the call, in octets (numbers: in elements). A pointer is never null; a length may be 0, and then the pointer
  * may point anywhere. Ranges lent to one call must not overlap. A call reads and writes nothing outside them. It ends for every input, and
  * has no other condition to meet: whatever the ranges hold, an answer comes back.
@@ -31,7 +32,31 @@
  * changed by xistalvo_secure, xistalvo_check and xistalvo_command. They need not outlive a loss of power; load again after it. numbers_length counts
  * elements and must be 32: with another count no numbers agree with any image, and the answer is 2 (or 1, which comes first).
  *
- * Calls on one image must follow one another; calls on different images and numbers may run at the same time. */
+ * The notes are a frame security report for each desk and one log of events, in memory as the numbers are: a struct (xistalvo_notes) and beside it a
+ * list of octets for the log's events, which a check and a command are lent before all else. xistalvo_fresh_notes makes the struct; the list may hold
+ * anything at first. Whatever both hold is read as notes: no content of them is an error, and they change no answer but those to the three commands
+ * that are about them. A load, a sending and a cut have no notes; notes are kept through a load, or made afresh, as the caller likes.
+ * A report has 4 octets, laid out as CCSDS 355.1-B-1 has it, so that it can ride in an operational control field (OCF) as it is: in octet 0 the bits
+ * 1 and 100, which say what it is, and then one bit each for the alarm, a bad number, a bad MAC and a bad association; in octets 1 and 2 the SPI; in
+ * octet 3 the low octet of a number. xistalvo_notes.h takes it apart. A check by desk 0, 1 or 2 renews the report of that desk, by its answer:
+ *
+ *   0             no flag; the frame's SPI; the number that the association has afterwards; the alarm stays as it was
+ *   1, 2, 3, 12   the alarm is set, and nothing else changes
+ *   4             bad association; the frame's SPI; 0 for the number; the alarm is set
+ *   5, 6          no flag; SPI and number as for 0; the alarm is set
+ *   7             bad MAC; the same
+ *   8             bad number; the same
+ *
+ * A check from a desk above 2, which is answered by 1, 2 or 19, changes no report. An alarm reset clears the alarm of the desk that gives it. No other
+ * call changes a report. A report that is changed has its first four bits as they are to be, whatever they were.
+ * Each check, and each command whose first octet is not that of dump or erase, is one event, whatever its answer: three octets, the desk as it was
+ * handed in, the first octet of the command (0 for a check, and for a command without octets) and the answer. The list has room for as many events as
+ * whole ones fit, at most 256, which XISTALVO_EVENTS_LENGTH octets hold. While it has room, the event is written behind those that are kept, and one
+ * more is kept; then it is counted as dropped, up to 4,294,967,295, where the count stays. An erase that is done leaves none kept and none dropped, and
+ * the octets of the list as they are. Report and event are a call's last effect: a call that power ends leaves none.
+ *
+ * Calls on one image must follow one another, and so must calls with one set of notes; calls on different images, numbers and notes may run at the
+ * same time. */
 #ifndef XISTALVO_H
 #define XISTALVO_H
 
@@ -43,9 +68,9 @@ extern "C" {
 #endif
 
 /* The version of this interface. The second number rises where something is added, the first where a program has to change. */
-#define XISTALVO_VERSION_MAJOR 3
+#define XISTALVO_VERSION_MAJOR 4
 #define XISTALVO_VERSION_MINOR 0
-#define XISTALVO_VERSION "3.0"
+#define XISTALVO_VERSION "4.0"
 
 /* The managed numbers of one image, in elements. */
 #define XISTALVO_NUMBERS 32
@@ -110,6 +135,19 @@ extern "C" {
 #define XISTALVO_KEY_OFFICE 0
 #define XISTALVO_DESK_1 1
 #define XISTALVO_DESK_2 2
+#define XISTALVO_DESKS 3
+
+/* The notes: octets of a report, octets of an event, the most events that a log keeps and the octets of a list that has room for them. */
+#define XISTALVO_REPORT_LENGTH 4
+#define XISTALVO_EVENT_LENGTH 3
+#define XISTALVO_MOST_EVENTS 256
+#define XISTALVO_EVENTS_LENGTH 768
+
+typedef struct {
+    uint8_t reports[XISTALVO_DESKS * XISTALVO_REPORT_LENGTH]; /* of desks 0, 1, 2, one behind the other */
+    uint32_t kept;    /* events that are kept: the first so many of the list; more than it has room for is read as that many, and left as it is */
+    uint32_t dropped; /* events that were not */
+} xistalvo_notes;
 
 /* The services. */
 #define XISTALVO_AUTHENTICATION 1           /* CMAC: the data stay readable; a frame grows by 22 octets */
@@ -154,12 +192,15 @@ extern "C" {
 #define XISTALVO_TAG_STOP 0x1E         /* SPI */
 #define XISTALVO_TAG_STATUS 0x1F       /* SPI */
 #define XISTALVO_TAG_PING 0x31         /* nothing */
+#define XISTALVO_TAG_DUMP 0x33         /* nothing; for desk 0 alone, as the next */
+#define XISTALVO_TAG_ERASE 0x34        /* nothing */
+#define XISTALVO_TAG_ALARM_RESET 0x37  /* nothing */
 
 /* The tag of a reply is its command's with the first bit set. Replies are laid out as commands are. */
 #define XISTALVO_TAG_OF_REPLY(tag) ((tag) | 0x80)
 
-/* The octets of a command, tag and length counted: stop, expire, status and read number are alike, and so are activation and deactivation. And
- * those of the four replies. */
+/* The octets of a command, tag and length counted: stop, expire, status and read number are alike, activation and deactivation, and dump, erase and
+ * alarm reset. And those of the six replies. */
 #define XISTALVO_START_LENGTH(channels) (5 + 4 * (channels))
 #define XISTALVO_SPI_ALONE_LENGTH 5
 #define XISTALVO_REKEY_LENGTH 19
@@ -168,11 +209,14 @@ extern "C" {
 #define XISTALVO_PING_LENGTH 3
 #define XISTALVO_KEY_ALONE_LENGTH 5
 #define XISTALVO_INVENTORY_LENGTH 7
+#define XISTALVO_NOTE_COMMAND_LENGTH 3
 #define XISTALVO_STATUS_REPLY_LENGTH 6       /* SPI, state (1) */
 #define XISTALVO_READ_NUMBER_REPLY_LENGTH 17 /* SPI, number (12) */
 #define XISTALVO_PING_REPLY_LENGTH 3         /* nothing */
 #define XISTALVO_INVENTORY_REPLY_LENGTH(keys) (5 + 3 * (keys)) /* count (2), and for each key its ID (2) and state (1) */
-#define XISTALVO_LARGEST_REPLY 197           /* an inventory of 64 keys; the other replies have 17 at most */
+#define XISTALVO_DUMP_REPLY_LENGTH(events) (3 + 5 * (events))  /* for each event its tag (1), 2 (2), its desk (1) and its answer (1) */
+#define XISTALVO_ERASE_REPLY_LENGTH 7        /* events that are kept (2), 0, and the octets that the list has room for events in (2) */
+#define XISTALVO_LARGEST_REPLY 1283          /* a dump of 256 events; the other replies have 197 at most, which is an inventory of 64 keys */
 
 /* Limits: of the window of an association that starts, and of one step of set number. */
 #define XISTALVO_LARGEST_WINDOW 1024
@@ -203,7 +247,7 @@ enum xistalvo_answer {
     XISTALVO_UNKNOWN_KEY = 17,        /* No key has the ID that the command, or for start the association, names. */
     XISTALVO_WRONG_KEY_STATE = 18,    /* The key's state does not allow the command; or a key is to be deactivated that an operational
                                        * association names. */
-    XISTALVO_DESK_REFUSED = 19        /* The desk is above 2, or is 1 or 2 and the command one of the key part. */
+    XISTALVO_DESK_REFUSED = 19        /* The desk is above 2, or is 1 or 2 and the command one of the key part, a dump or an erase. */
 };
 
 /* Load, secure, check and command return one number: bits 0 to 31 hold the length of the result in octets, bits 32 to 39 the number of octets
@@ -211,6 +255,9 @@ enum xistalvo_answer {
 #define XISTALVO_ANSWER(result) ((unsigned int)(((result) >> 40) & 0xFFu))
 #define XISTALVO_STORES(result) ((unsigned int)(((result) >> 32) & 0xFFu))
 #define XISTALVO_LENGTH(result) ((size_t)((result) & 0xFFFFFFFFu))
+
+/* Makes notes with no alarm, no flag and no event, whatever the struct held: each report is C0 00 00 00, and kept and dropped are 0. */
+void xistalvo_fresh_notes(xistalvo_notes *notes);
 
 /* A restart: reads the image and makes the managed numbers, for all desks at once.
  *
@@ -244,9 +291,12 @@ uint64_t xistalvo_secure(uint8_t *image, size_t image_length, uint32_t *numbers,
  * Done: first the mark of entry i is raised, one at a time, to n/64 rounded down, one octet of the image stored for each raise; the stores
  * are counted, at most 16. The clear data alone, without headers, OCF and check field, fills the start of the output, and the length is that
  * of the data. numbers[i] becomes n. The rest of the output, the rest of the image and the other numbers stay.
- * Refused: image, numbers and output stay as they were, and nothing is decrypted. The frame is never written. */
-uint64_t xistalvo_check(uint8_t *image, size_t image_length, uint32_t *numbers, size_t numbers_length, uint8_t desk, uint8_t kind,
-                        uint8_t check_field, const uint8_t *frame, size_t frame_length, uint8_t *output, size_t output_length);
+ * Refused: image, numbers and output stay as they were, and nothing is decrypted. The frame is never written.
+ * Done or refused, then: the report of the desk is renewed as the table above says, and the event (desk, 0, answer) entered. Of the notes the other
+ * reports stay, and of the list all but the octets of an event that is kept. */
+uint64_t xistalvo_check(xistalvo_notes *notes, uint8_t *events, size_t events_length, uint8_t *image, size_t image_length, uint32_t *numbers,
+                        size_t numbers_length, uint8_t desk, uint8_t kind, uint8_t check_field, const uint8_t *frame, size_t frame_length,
+                        uint8_t *output, size_t output_length);
 
 /* The same two calls for a ground station: the same arguments, answers and octets, for every input, by another engine of AES-256, which is
  * quicker. It takes its tables from its own stack, XISTALVO_GROUND_STACK octets in all (xistalvo_stack.h). A program that does not call them
@@ -254,17 +304,19 @@ uint64_t xistalvo_check(uint8_t *image, size_t image_length, uint32_t *numbers, 
 uint64_t xistalvo_ground_secure(uint8_t *image, size_t image_length, uint32_t *numbers, size_t numbers_length, uint8_t desk, uint8_t kind,
                                 uint8_t check_field, uint16_t spi, const uint8_t *frame, size_t frame_length, uint8_t *output,
                                 size_t output_length);
-uint64_t xistalvo_ground_check(uint8_t *image, size_t image_length, uint32_t *numbers, size_t numbers_length, uint8_t desk, uint8_t kind,
-                               uint8_t check_field, const uint8_t *frame, size_t frame_length, uint8_t *output, size_t output_length);
+uint64_t xistalvo_ground_check(xistalvo_notes *notes, uint8_t *events, size_t events_length, uint8_t *image, size_t image_length,
+                               uint32_t *numbers, size_t numbers_length, uint8_t desk, uint8_t kind, uint8_t check_field, const uint8_t *frame,
+                               size_t frame_length, uint8_t *output, size_t output_length);
 
 /* Carries out one management command for a desk: octets as it sends them, which the caller has checked to be that desk's (xistalvo_check).
  *
  * The state goes from unkeyed by rekey to keyed, by start to operational, by stop back to keyed and by expire back to unkeyed; each asks for the
  * state that it leaves. Number and mark stay through all of them, and so does the key below version 3; from version 3 on rekey names the key that
  * is used from then on. Direction and kind make no difference. Keys go from pre-active by activation to active and by deactivation to deactivated.
+ * Dump, erase and alarm reset are about the notes alone; they need an image and numbers that are right, and store nothing.
  *
  * Answers, in this order: 1; 2; 19; 13; 14, for every command that names an SPI; 15; 16; 17; 18; 6, where the output is shorter than the reply; 0.
- * 19: the desk is above 2; or it is 1 or 2 and the first octet is the tag of activation, deactivation or inventory, whatever follows it.
+ * 19: the desk is above 2; or it is 1 or 2 and the first octet is the tag of activation, deactivation, inventory, dump or erase, whatever follows it.
  * 14: the SPI is not in the table, or the desk does not see its association.
  * 15: start where the state is not keyed, stop where it is not operational, expire where it is not keyed, rekey where it is not unkeyed, set
  * window where it is operational. Set number, status, read number and commands without an SPI are for every state.
@@ -283,12 +335,16 @@ uint64_t xistalvo_ground_check(uint8_t *image, size_t image_length, uint32_t *nu
  * 16, which raise the mark one at a time to n/64 rounded down, and then numbers[i] becomes n; activation and deactivation 1, the key's state; the
  * others none. Then the reply fills the start of the output, and the length is its length: for status the SPI and the state as they are, for read
  * number the SPI and numbers[i], for ping no value, for inventory how many keys have an ID from the first to the last, and of each, in rising
- * order, ID and state; the other commands have no reply, and their length is 0. The rest of the output, the rest of the image and the other
- * numbers stay.
+ * order, ID and state, for dump each event that is kept, the oldest first: its tag, a length of 2, desk and answer; for erase how many events are kept
+ * then, 0, and the octets of those that there is room for, 768 in a list of XISTALVO_EVENTS_LENGTH; the other commands have no reply, and their
+ * length is 0. The rest of the output, the rest of the image and the other numbers stay.
  * Refused: image, numbers and output stay as they were. The command is never written.
+ * Done or refused, then: the event (desk, first octet or 0, answer) is entered, unless the first octet is that of dump or erase. An alarm reset that is
+ * done clears the alarm in the report of its desk, an erase that is done sets kept and dropped to 0. Nothing else of the notes changes.
  * A loss of power leaves the image after the first j of the stores, for some j, which loads: what xistalvo_command_cut leaves. */
-uint64_t xistalvo_command(uint8_t *image, size_t image_length, uint32_t *numbers, size_t numbers_length, uint8_t desk,
-                          const uint8_t *command, size_t command_length, uint8_t *output, size_t output_length);
+uint64_t xistalvo_command(xistalvo_notes *notes, uint8_t *events, size_t events_length, uint8_t *image, size_t image_length, uint32_t *numbers,
+                          size_t numbers_length, uint8_t desk, const uint8_t *command, size_t command_length, uint8_t *output,
+                          size_t output_length);
 
 /* The cut: what a call that took this number leaves of the image when power fails after its first stores.
  *
@@ -304,7 +360,8 @@ uint32_t xistalvo_raise(uint8_t *image, size_t image_length, uint8_t entry, uint
 /* The cut of a command: what xistalvo_command leaves of the image when power fails after its first stores.
  *
  * Makes, of the octet stores of xistalvo_command with these arguments and an output of output_length octets, the first as many as 'stores' says,
- * or all where there are fewer, and returns how many it made. Where that call is refused: none is made and 0 returned.
+ * or all where there are fewer, and returns how many it made. Where that call is refused: none is made and 0 returned. Dump, erase and alarm reset
+ * store nothing, whatever the notes.
  * Only those octets of the image are written. */
 uint32_t xistalvo_command_cut(uint8_t *image, size_t image_length, const uint32_t *numbers, size_t numbers_length, uint8_t desk,
                               const uint8_t *command, size_t command_length, size_t output_length, uint32_t stores);

@@ -35,7 +35,7 @@ static inline void xistalvo_put_number(uint8_t *place, size_t octets, uint32_t n
     }
 }
 
-/* Tag and length, and for all but ping the first field of the value, an SPI or a key ID; the rest of the value is 0. */
+/* Tag and length, and for all that have a value its first field, an SPI or a key ID; the rest of the value is 0. */
 static inline size_t xistalvo_begin_command(uint8_t tag, uint16_t first, uint8_t *command, size_t length, size_t room)
 {
     size_t i;
@@ -131,10 +131,54 @@ static inline size_t xistalvo_make_ping(uint8_t *command, size_t room)
     return xistalvo_begin_command(XISTALVO_TAG_PING, 0, command, XISTALVO_PING_LENGTH, room);
 }
 
-/* The octets that a reply to a command with this tag has; of an inventory, by the count that it holds. 0 where there is none. */
+/* Dump, erase or alarm reset, which are about the notes (xistalvo_notes.h): XISTALVO_NOTE_COMMAND_LENGTH octets. Dump and erase are for desk 0 alone;
+ * an alarm reset is every desk's, for its own report. */
+static inline size_t xistalvo_make_dump(uint8_t *command, size_t room)
+{
+    return xistalvo_begin_command(XISTALVO_TAG_DUMP, 0, command, XISTALVO_NOTE_COMMAND_LENGTH, room);
+}
+
+static inline size_t xistalvo_make_erase(uint8_t *command, size_t room)
+{
+    return xistalvo_begin_command(XISTALVO_TAG_ERASE, 0, command, XISTALVO_NOTE_COMMAND_LENGTH, room);
+}
+
+static inline size_t xistalvo_make_alarm_reset(uint8_t *command, size_t room)
+{
+    return xistalvo_begin_command(XISTALVO_TAG_ALARM_RESET, 0, command, XISTALVO_NOTE_COMMAND_LENGTH, room);
+}
+
+/* What a command is called, by its first octet; 'check' for 0, as the log has it, which is no command's. */
+static inline const char *xistalvo_command_name(uint8_t tag)
+{
+    switch (tag) {
+    case 0: return "check";
+    case XISTALVO_TAG_ACTIVATION: return "activation";
+    case XISTALVO_TAG_DEACTIVATION: return "deactivation";
+    case XISTALVO_TAG_INVENTORY: return "inventory";
+    case XISTALVO_TAG_READ_NUMBER: return "read number";
+    case XISTALVO_TAG_SET_WINDOW: return "set window";
+    case XISTALVO_TAG_REKEY: return "rekey";
+    case XISTALVO_TAG_EXPIRE: return "expire";
+    case XISTALVO_TAG_SET_NUMBER: return "set number";
+    case XISTALVO_TAG_START: return "start";
+    case XISTALVO_TAG_STOP: return "stop";
+    case XISTALVO_TAG_STATUS: return "status";
+    case XISTALVO_TAG_PING: return "ping";
+    case XISTALVO_TAG_DUMP: return "dump";
+    case XISTALVO_TAG_ERASE: return "erase";
+    case XISTALVO_TAG_ALARM_RESET: return "alarm reset";
+    default: return "no command of the module";
+    }
+}
+
+/* The octets that a reply to a command with this tag has; of an inventory, by the count that it holds, and of a dump, by its length field, where whole
+ * events fit it. 0 where there is none. */
 static inline size_t xistalvo_reply_length(uint8_t tag, const uint8_t *reply, size_t length)
 {
     switch (tag) {
+    case XISTALVO_TAG_DUMP: return length < 3 || (reply[1] << 8 | reply[2]) % 5 != 0 ? 0 : (size_t)(3 + (reply[1] << 8 | reply[2]));
+    case XISTALVO_TAG_ERASE: return XISTALVO_ERASE_REPLY_LENGTH;
     case XISTALVO_TAG_STATUS: return XISTALVO_STATUS_REPLY_LENGTH;
     case XISTALVO_TAG_READ_NUMBER: return XISTALVO_READ_NUMBER_REPLY_LENGTH;
     case XISTALVO_TAG_PING: return XISTALVO_PING_REPLY_LENGTH;
@@ -164,6 +208,17 @@ static inline uint8_t xistalvo_state_in(const uint8_t *reply)
 static inline uint32_t xistalvo_number_in(const uint8_t *reply)
 {
     return (uint32_t)reply[13] << 24 | (uint32_t)reply[14] << 16 | (uint32_t)reply[15] << 8 | reply[16];
+}
+
+/* How many events are kept after an erase, by its reply, and in how many octets there is room for events. */
+static inline size_t xistalvo_events_left_in(const uint8_t *reply)
+{
+    return (size_t)(reply[3] << 8 | reply[4]);
+}
+
+static inline size_t xistalvo_free_space_in(const uint8_t *reply)
+{
+    return (size_t)(reply[5] << 8 | reply[6]);
 }
 
 /* How many keys a reply to inventory lists, and ID and state of the i-th of them, from 0. */

@@ -6,15 +6,19 @@ uint64_t xistalvo64_load(const uint8_t *image, uint64_t image_length, uint32_t *
 uint64_t xistalvo64_secure(uint8_t *image, uint64_t image_length, uint32_t *numbers, uint64_t numbers_length, uint8_t desk, uint8_t kind,
                            uint8_t check_field, uint16_t spi, const uint8_t *frame, uint64_t frame_length, uint8_t *output,
                            uint64_t output_length);
-uint64_t xistalvo64_check(uint8_t *image, uint64_t image_length, uint32_t *numbers, uint64_t numbers_length, uint8_t desk, uint8_t kind,
-                          uint8_t check_field, const uint8_t *frame, uint64_t frame_length, uint8_t *output, uint64_t output_length);
+uint64_t xistalvo64_check(xistalvo_notes *notes, uint8_t *events, uint64_t events_length, uint8_t *image, uint64_t image_length, uint32_t *numbers,
+                          uint64_t numbers_length, uint8_t desk, uint8_t kind, uint8_t check_field, const uint8_t *frame, uint64_t frame_length,
+                          uint8_t *output, uint64_t output_length);
 uint64_t xistalvo64_ground_secure(uint8_t *image, uint64_t image_length, uint32_t *numbers, uint64_t numbers_length, uint8_t desk, uint8_t kind,
                                   uint8_t check_field, uint16_t spi, const uint8_t *frame, uint64_t frame_length, uint8_t *output,
                                   uint64_t output_length);
-uint64_t xistalvo64_ground_check(uint8_t *image, uint64_t image_length, uint32_t *numbers, uint64_t numbers_length, uint8_t desk, uint8_t kind,
-                                 uint8_t check_field, const uint8_t *frame, uint64_t frame_length, uint8_t *output, uint64_t output_length);
-uint64_t xistalvo64_command(uint8_t *image, uint64_t image_length, uint32_t *numbers, uint64_t numbers_length, uint8_t desk,
-                            const uint8_t *command, uint64_t command_length, uint8_t *output, uint64_t output_length);
+uint64_t xistalvo64_ground_check(xistalvo_notes *notes, uint8_t *events, uint64_t events_length, uint8_t *image, uint64_t image_length,
+                                 uint32_t *numbers, uint64_t numbers_length, uint8_t desk, uint8_t kind, uint8_t check_field, const uint8_t *frame,
+                                 uint64_t frame_length, uint8_t *output, uint64_t output_length);
+uint64_t xistalvo64_command(xistalvo_notes *notes, uint8_t *events, uint64_t events_length, uint8_t *image, uint64_t image_length,
+                            uint32_t *numbers, uint64_t numbers_length, uint8_t desk, const uint8_t *command, uint64_t command_length,
+                            uint8_t *output, uint64_t output_length);
+void xistalvo64_fresh_notes(xistalvo_notes *notes);
 uint32_t xistalvo64_raise(uint8_t *image, uint64_t image_length, uint8_t entry, uint32_t number, uint32_t stores);
 uint32_t xistalvo64_command_cut(uint8_t *image, uint64_t image_length, const uint32_t *numbers, uint64_t numbers_length, uint8_t desk,
                                 const uint8_t *command, uint64_t command_length, uint64_t output_length, uint32_t stores);
@@ -33,10 +37,12 @@ uint64_t xistalvo_secure(uint8_t *image, size_t image_length, uint32_t *numbers,
                              output_length);
 }
 
-uint64_t xistalvo_check(uint8_t *image, size_t image_length, uint32_t *numbers, size_t numbers_length, uint8_t desk, uint8_t kind,
-                        uint8_t check_field, const uint8_t *frame, size_t frame_length, uint8_t *output, size_t output_length)
+uint64_t xistalvo_check(xistalvo_notes *notes, uint8_t *events, size_t events_length, uint8_t *image, size_t image_length, uint32_t *numbers,
+                        size_t numbers_length, uint8_t desk, uint8_t kind, uint8_t check_field, const uint8_t *frame, size_t frame_length,
+                        uint8_t *output, size_t output_length)
 {
-    return xistalvo64_check(image, image_length, numbers, numbers_length, desk, kind, check_field, frame, frame_length, output, output_length);
+    return xistalvo64_check(notes, events, events_length, image, image_length, numbers, numbers_length, desk, kind, check_field, frame, frame_length,
+                            output, output_length);
 }
 
 uint64_t xistalvo_ground_secure(uint8_t *image, size_t image_length, uint32_t *numbers, size_t numbers_length, uint8_t desk, uint8_t kind,
@@ -47,17 +53,25 @@ uint64_t xistalvo_ground_secure(uint8_t *image, size_t image_length, uint32_t *n
                                     output_length);
 }
 
-uint64_t xistalvo_ground_check(uint8_t *image, size_t image_length, uint32_t *numbers, size_t numbers_length, uint8_t desk, uint8_t kind,
-                               uint8_t check_field, const uint8_t *frame, size_t frame_length, uint8_t *output, size_t output_length)
+uint64_t xistalvo_ground_check(xistalvo_notes *notes, uint8_t *events, size_t events_length, uint8_t *image, size_t image_length,
+                               uint32_t *numbers, size_t numbers_length, uint8_t desk, uint8_t kind, uint8_t check_field, const uint8_t *frame,
+                               size_t frame_length, uint8_t *output, size_t output_length)
 {
-    return xistalvo64_ground_check(image, image_length, numbers, numbers_length, desk, kind, check_field, frame, frame_length, output,
-                                   output_length);
+    return xistalvo64_ground_check(notes, events, events_length, image, image_length, numbers, numbers_length, desk, kind, check_field, frame,
+                                   frame_length, output, output_length);
 }
 
-uint64_t xistalvo_command(uint8_t *image, size_t image_length, uint32_t *numbers, size_t numbers_length, uint8_t desk,
-                          const uint8_t *command, size_t command_length, uint8_t *output, size_t output_length)
+uint64_t xistalvo_command(xistalvo_notes *notes, uint8_t *events, size_t events_length, uint8_t *image, size_t image_length, uint32_t *numbers,
+                          size_t numbers_length, uint8_t desk, const uint8_t *command, size_t command_length, uint8_t *output,
+                          size_t output_length)
 {
-    return xistalvo64_command(image, image_length, numbers, numbers_length, desk, command, command_length, output, output_length);
+    return xistalvo64_command(notes, events, events_length, image, image_length, numbers, numbers_length, desk, command, command_length, output,
+                              output_length);
+}
+
+void xistalvo_fresh_notes(xistalvo_notes *notes)
+{
+    xistalvo64_fresh_notes(notes);
 }
 
 uint32_t xistalvo_raise(uint8_t *image, size_t image_length, uint8_t entry, uint32_t number, uint32_t stores)

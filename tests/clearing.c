@@ -19,6 +19,8 @@ static ucontext_t here, there;
 
 static uint8_t images[2][LARGEST_IMAGE], clear[LARGEST_FRAME], secured[LARGEST_FRAME], opened[LARGEST_FRAME];
 static uint32_t numbers[2][NUMBER_COUNT];
+static xistalvo_notes notes;
+static uint8_t events[XISTALVO_EVENTS_LENGTH];
 static size_t image_length, clear_length;
 static uint64_t result;
 static bool is_cleared;
@@ -34,8 +36,8 @@ static void call_secure(void)
 
 static void call_check(void)
 {
-    result = xistalvo_check(images[1], image_length, numbers[1], NUMBER_COUNT, XISTALVO_KEY_OFFICE, XISTALVO_TC, XISTALVO_NO_CHECK_FIELD, secured,
-                            XISTALVO_LENGTH(result), opened, sizeof opened);
+    result = xistalvo_check(&notes, events, sizeof events, images[1], image_length, numbers[1], NUMBER_COUNT, XISTALVO_KEY_OFFICE, XISTALVO_TC,
+                            XISTALVO_NO_CHECK_FIELD, secured, XISTALVO_LENGTH(result), opened, sizeof opened);
     if (is_cleared) {
         xistalvo_clear_stack();
     }
@@ -52,8 +54,8 @@ static void call_ground_secure(void)
 
 static void call_ground_check(void)
 {
-    result = xistalvo_ground_check(images[1], image_length, numbers[1], NUMBER_COUNT, XISTALVO_KEY_OFFICE, XISTALVO_TC, XISTALVO_NO_CHECK_FIELD,
-                                   secured, XISTALVO_LENGTH(result), opened, sizeof opened);
+    result = xistalvo_ground_check(&notes, events, sizeof events, images[1], image_length, numbers[1], NUMBER_COUNT, XISTALVO_KEY_OFFICE,
+                                   XISTALVO_TC, XISTALVO_NO_CHECK_FIELD, secured, XISTALVO_LENGTH(result), opened, sizeof opened);
     if (is_cleared) {
         xistalvo_clear_ground_stack();
     }

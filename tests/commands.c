@@ -159,7 +159,13 @@ static const struct {
     {"ping", TC_IN(2), "31 0000", 0, 0, "", "B1 0000"},
     {"ping: with an SPI", TC_IN(2), "31 0002 0009", 13, 0, "", ""},
     {"a reply is no command", TC_IN(2), "B1 0000", 13, 0, "", ""},
-    {"another tag", TC_IN(2), "37 0000", 13, 0, "", ""},
+    {"another tag", TC_IN(2), "32 0000", 13, 0, "", ""},
+    {"dump: no event", TC_IN(2), "33 0000", 0, 0, "", "B3 0000"},
+    {"dump: an octet too many", TC_IN(2), "33 0001 00", 13, 0, "", ""},
+    {"erase: no room in the list", TC_IN(2), "34 0000", 0, 0, "", "B4 0004 0000 0000"},
+    {"erase: its tag alone", TC_IN(2), "34", 13, 0, "", ""},
+    {"alarm reset", TC_IN(2), "37 0000", 0, 0, "", ""},
+    {"alarm reset: with a desk", TC_IN(2), "37 0001 01", 13, 0, "", ""},
     {"unknown tag and unknown SPI: 13 before 14", TC_IN(2), "1D 0002 0008", 13, 0, "", ""},
     {"no octet", TC_IN(2), "", 13, 0, "", ""},
     {"a tag alone", TC_IN(2), "31", 13, 0, "", ""},
@@ -202,7 +208,7 @@ static bool has_form(unsigned tag, size_t value)
     case TAG_REKEY: return value == 16;
     case TAG_SET_NUMBER: return value == 14;
     case TAG_SET_WINDOW: case TAG_INVENTORY: return value == 4;
-    case TAG_PING: return value == 0;
+    case TAG_PING: case TAG_DUMP: case TAG_ERASE: case TAG_ALARM_RESET: return value == 0;
     default: return index_of_tag(tag) < TAG_COUNT && value == 2;
     }
 }
@@ -222,10 +228,10 @@ static void try_every_form(unsigned version)
                 bool is_formed = length >= 3 && field == length - 3 && has_form(tag, field);
                 expect((run(&input).answer != 13) == is_formed, "13 is given for a right form, or not for a wrong one");
                 input.desk = (uint8_t)(1 + field % 2); /* a laboratory's: 19 for the first octet alone */
-                bool is_about_keys = length != 0 && (tag == TAG_ACTIVATION || tag == TAG_DEACTIVATION || tag == TAG_INVENTORY);
+                bool is_refused = length != 0 && is_office_only(tag);
                 unsigned answer = run(&input).answer;
-                expect((answer == 19) == is_about_keys, "19 is not given for a key command of a laboratory, or for another");
-                expect(is_about_keys || (answer != 13) == is_formed, "13 is given otherwise to a laboratory than to the key office");
+                expect((answer == 19) == is_refused, "19 is not given for a key command, a dump or an erase of a laboratory, or for another");
+                expect(is_refused || (answer != 13) == is_formed, "13 is given otherwise to a laboratory than to the key office");
                 input.desk = (uint8_t)(3 + tag % 253);
                 expect(run(&input).answer == 19, "a desk that there is not is answered otherwise than by 19");
             }
@@ -315,8 +321,10 @@ static void try_longest_start(void)
     for (unsigned wrong = 0; wrong < 2; wrong++) {
         lay_out(&setting, &input);
         command[length - 1] ^= (uint8_t)(1 - wrong); /* the last name is wrong the first time */
-        uint64_t result = xistalvo_command(input.image, input.image_length, input.numbers, NUMBER_COUNT, XISTALVO_KEY_OFFICE, command, length,
-                                           input.output, 0);
+        xistalvo_notes notes;
+        xistalvo_fresh_notes(&notes);
+        uint64_t result = xistalvo_command(&notes, input.record.events, XISTALVO_EVENTS_LENGTH, input.image, input.image_length, input.numbers,
+                                           NUMBER_COUNT, XISTALVO_KEY_OFFICE, command, length, input.output, 0);
         expect(XISTALVO_ANSWER(result) == (wrong == 0 ? 16 : 0), "the longest start is answered otherwise");
         command[length - 1] ^= (uint8_t)(1 - wrong);
     }
@@ -347,6 +355,9 @@ static size_t lay_out_by_header(unsigned tag, unsigned spi, uint32_t value, uint
     case TAG_SET_NUMBER: return xistalvo_make_set_number((uint16_t)spi, value, command, room);
     case TAG_SET_WINDOW: return xistalvo_make_set_window((uint16_t)spi, (uint16_t)value, command, room);
     case TAG_PING: return xistalvo_make_ping(command, room);
+    case TAG_DUMP: return xistalvo_make_dump(command, room);
+    case TAG_ERASE: return xistalvo_make_erase(command, room);
+    case TAG_ALARM_RESET: return xistalvo_make_alarm_reset(command, room);
     default: return xistalvo_make_spi_alone((uint8_t)tag, (uint16_t)spi, command, room);
     }
 }
@@ -360,7 +371,7 @@ static void lay_out_by_test(struct input *input, unsigned tag, unsigned spi, uin
     case TAG_INVENTORY: put_inventory(input, value >> 16, value & 0xFFFF); break;
     case TAG_SET_NUMBER: put_set_number(input, spi, value); break;
     case TAG_SET_WINDOW: put_set_window(input, spi, value & 0xFFFF); break;
-    case TAG_PING: put_command(input, tag, NULL, 0); break;
+    case TAG_PING: case TAG_DUMP: case TAG_ERASE: case TAG_ALARM_RESET: put_command(input, tag, NULL, 0); break;
     default: put_spi_alone(input, tag, spi); break;
     }
 }

@@ -5,7 +5,8 @@
  * numbers and calls, if key part, contents, validity, agreement of numbers with marks and places of loads and cuts are the same'. A pair of runs
  * has two images of version 4 with the same contents, owners, key part and bodies of the watched desk; the other desk's bodies, numbers and
  * calls are each run's own. The watched desk is a client, one in each run, that is told nothing but the answers to its own calls, and makes of
- * them what it asks next. Octet by octet, both clients must ask and be answered the same to the end, so that neither can tell which run it is in.
+ * them what it asks next. Octet by octet, both clients must ask and be answered the same to the end, so that neither can tell which run it is in; and
+ * so must the report of the watched desk be (request 11), whatever the log and the other desk's report hold.
  * Every second pair watches desk 1 in place of desk 2.
  *
  *   desks [--seed S] [--count N] [--from W]
@@ -174,7 +175,7 @@ static const struct {
     {"an SPI that is not there", 3, "1F 0002 0008", 14, 14},
     {"status of SPI 9 with an octet more", 3, "1F 0003 0009 00", 13, 13},
     {"ping", 3, "31 0000", 0, 0},
-    {"another tag", 3, "33 0000", 13, 13},
+    {"another tag", 3, "32 0000", 13, 13},
     {"no octet", 3, "", 13, 13},
     {"activation of key 263", 0, "02 0002 0107", 0, 19},
     {"activation without an ID", 0, "02 0000", 13, 19},
@@ -184,6 +185,13 @@ static const struct {
     {"deactivation with an octet more", 0, "03 0003 000700", 13, 19},
     {"inventory", 0, "07 0004 0000 FFFF", 0, 19},
     {"inventory of one octet", 0, "07 0001 00", 13, 19},
+    {"dump", 0, "33 0000", 0, 19},
+    {"dump with an octet more", 0, "33 0001 00", 13, 19},
+    {"dump, its tag alone", 0, "33", 13, 19},
+    {"erase", 0, "34 0000", 0, 19},
+    {"erase with an octet less", 0, "34 00", 13, 19},
+    {"alarm reset", 3, "37 0000", 0, 0},
+    {"alarm reset with an octet more", 3, "37 0001 00", 13, 13},
     {"inventory's tag and 64 octets", 0, "07 0000 00000000000000000000000000000000000000000000000000000000000000", 13, 19},
 };
 
@@ -313,7 +321,7 @@ struct pair {
 };
 
 struct totals {
-    uint64_t pairs[3], steps, answers, done, refused, of_foreign, loads, cuts, others, parted, broken, disagreeing;
+    uint64_t pairs[3], steps, answers, done, refused, of_foreign, loads, cuts, others, parted, broken, disagreeing, alarms, quiet;
     uint64_t commands[TAG_COUNT];
 };
 
@@ -420,6 +428,7 @@ static void put_end(struct input *input, const struct end *end)
     memcpy(input->image, end->image, end->image_length);
     input->numbers_length = NUMBER_COUNT;
     memcpy(input->numbers, end->numbers, sizeof end->numbers);
+    input->record = end->record;
 }
 
 static struct outcome carry_out(struct pair *pair, struct side *side, struct input *input)
@@ -456,6 +465,12 @@ static void judge_states(const struct pair *pair)
             both_fail("an association of the watched desk is another in the other run");
         }
     }
+    const uint8_t *report = ends[0]->record.notes.reports[pair->watched];
+    if (memcmp(report, ends[1]->record.notes.reports[pair->watched], REPORT_LENGTH) != 0) {
+        both_fail("the report of the watched desk is another in the other run");
+    }
+    totals.alarms += (report[0] & 8) != 0;
+    totals.quiet += (report[0] & 8) == 0;
 }
 
 /* One call of each client, made of what it was told. */
@@ -475,7 +490,7 @@ static void client_calls(struct pair *pair, uint64_t seed, struct input inputs[2
     for (size_t s = 0; s < 2; s++) {
         struct end kept = pair->sides[s].end;
         outcomes[s] = carry_out(pair, &pair->sides[s], &inputs[s]);
-        if (is_cut) {
+        if (is_cut) { /* of its notes, too */
             pair->sides[s].end = kept;
         }
     }
@@ -502,8 +517,8 @@ static void judge_answers(struct pair *pair, const struct input inputs[2], const
     }
     for (size_t s = 0; s < 2; s++) {
         uint64_t told = digest(pair->sides[s].told, inputs[s].frame, inputs[s].frame_length);
-        told = digest(told, &outcomes[s].answer, sizeof outcomes[s].answer);
-        told = digest(told, &outcomes[s].stores, sizeof outcomes[s].stores);
+        const uint8_t answered[] = {(uint8_t)outcomes[s].answer, (uint8_t)outcomes[s].stores}; /* the same on every processor */
+        told = digest(told, answered, sizeof answered);
         pair->sides[s].told = digest(told, inputs[s].output, inputs[s].output_length);
     }
     totals.answers++;
@@ -651,8 +666,10 @@ static void client_is_refused(struct pair *pair, uint64_t seed)
         both_fail("a broken rule or numbers that disagree are not refused by 1 or 2");
     }
     judge_answers(pair, inputs, outcomes);
-    pair->sides[0].end = kept[0];
-    pair->sides[1].end = kept[1];
+    for (size_t s = 0; s < 2; s++) { /* but for the alarm, which stays */
+        pair->sides[s].end = kept[s];
+        notes_of_input(&pair->sides[s].end, &inputs[s]);
+    }
     totals.broken += breaks_rule;
     totals.disagreeing += !breaks_rule;
 }
@@ -711,6 +728,14 @@ static void start_pair(struct pair *pair, struct options options, uint64_t numbe
         pair->sides[s].told = number;
     }
     end_of_input(&pair->sides[1].end, &input);
+    for (size_t desk = 0; desk < DESK_COUNT; desk++) { /* 'their own part' of the notes: another report, and another log */
+        if (desk != pair->watched && desk != KEY_OFFICE) {
+            random_octets(&pair->random, pair->sides[1].end.record.notes.reports[desk], REPORT_LENGTH);
+        }
+    }
+    pair->sides[1].end.record.notes.kept = random_below(&pair->random, 300);
+    pair->sides[1].end.record.notes.dropped = random_below(&pair->random, 3);
+    random_octets(&pair->random, pair->sides[1].end.record.events, pair->sides[1].end.record.events_length);
 }
 
 static void run_pair(struct options options, uint64_t number)
@@ -750,10 +775,9 @@ static void run_pair(struct options options, uint64_t number)
 static bool pairs_are_enough(void)
 {
     bool is_enough = totals.pairs[1] > 0 && totals.pairs[2] > 0 && totals.of_foreign > 0 && totals.loads > 0 && totals.cuts > 0 && totals.others > 0
-        && totals.parted > 0 && totals.broken > 0 && totals.disagreeing > 0;
+        && totals.parted > 0 && totals.broken > 0 && totals.disagreeing > 0 && totals.alarms > 0 && totals.quiet > 0;
     for (size_t tag = 0; tag < TAG_COUNT; tag++) {
-        bool is_about_keys = !names_spi(every_tag[tag]) && every_tag[tag] != TAG_PING;
-        is_enough = is_enough && (totals.commands[tag] > 0) != is_about_keys;
+        is_enough = is_enough && (totals.commands[tag] > 0) != is_office_only(every_tag[tag]);
     }
     return is_enough;
 }
@@ -791,9 +815,10 @@ int main(int argument_count, char **arguments)
            " calls of a client, %" PRIu64 " done and %" PRIu64 " refused, %" PRIu64 " about another's association; %" PRIu64
            " calls of the other desk, %" PRIu64 " loads, %" PRIu64 " cuts, %" PRIu64 " images broken and %" PRIu64
            " numbers that disagree by the other desk's part; %" PRIu64
-           " calls of the key office taken back because the key parts would have parted; no client could tell its run\n",
+           " calls of the key office taken back because the key parts would have parted; no client could tell its run, and its report was the "
+           "same in both, %" PRIu64 " times with an alarm and %" PRIu64 " times with none\n",
            options.seed, totals.pairs[1], totals.pairs[2], totals.steps, totals.answers, totals.done, totals.refused, totals.of_foreign,
-           totals.others, totals.loads, totals.cuts, totals.broken, totals.disagreeing, totals.parted);
+           totals.others, totals.loads, totals.cuts, totals.broken, totals.disagreeing, totals.parted, totals.alarms, totals.quiet);
     if (options.count >= ENOUGH_PAIRS && !pairs_are_enough()) {
         puts("desks: too few of the calls that pairs are to show");
         return 1;

@@ -1,12 +1,13 @@
-/* The module and the independent reading of the papers on the same inputs: answer, length, stores, image, numbers and output are compared
- * after every call, refused ones too, with guards around every range (support/both.h).
+/* The module and the independent reading of the papers on the same inputs: answer, length, stores, image, numbers, output, notes and events are
+ * compared after every call, refused ones too, with guards around every range (support/both.h).
  *
  *   differential [--seed S] [--count N] [--from W]
  *
  * An input is one call. Inputs come in worlds: two ends of a link with random associations, and about forty calls on them. The generator of world
  * W is made from the seed and W alone, so --from W takes a run up there. At the end the answers are counted by call, kind and service of the
  * association that the input was made for, TM associations with a set of channels and TM frames with a secondary header apart; those to commands
- * by tag, and what they asked for at limits; what was met of key parts and owners, and broken in them; what each desk was answered; a long run
+ * by tag, and what they asked for at limits; what was met of key parts and owners, and broken in them; what each desk was answered, and what its report
+ * and the log were told; a long run
  * that misses an answer or a limit that can be reached fails, and a longer one that misses a length of a secondary header, with a check field or
  * without, or changed no frame with both in each bit. */
 #include "support/both.h"
@@ -19,7 +20,7 @@
 #include <string.h>
 
 enum { CALLS_PER_WORLD = 40, KINDS = 4, SET_ROW = KINDS + 1, STAMP_ROW, ROWS, VERSIONS = 4, ANSWERS = 20 };
-enum { ENOUGH_FOR_EVERY_ANSWER = 50000, ENOUGH_FOR_EVERY_LIMIT = 150000 };
+enum { ENOUGH_FOR_EVERY_ANSWER = 100000, ENOUGH_FOR_EVERY_LIMIT = 150000 };
 enum { MOST_SECONDARY = 64, ENOUGH_FOR_EVERY_LENGTH = 200000 }; /* octets of a secondary header */
 
 /* Windows and numbers of commands, at their limits: the window that a body has or a command asks for, and the step that set number asks for. */
@@ -45,9 +46,16 @@ static const char *const key_sight_names[KEY_SIGHTS] = {
 /* What calls of each desk come to, and which desks call. SEEN_BY_OFFICE: refused by 4 or 14 where desk 0 is answered otherwise. */
 enum desk_sight { DONE_TO_DESK, UNKNOWN_TO_DESK, SEEN_BY_OFFICE, NOT_A_DESK, NOT_ITS_COMMAND, SHORT_OR_LONG, DESK_SIGHTS };
 static const char *const desk_sight_names[DESK_SIGHTS] = {
-    "done", "refused by 4 or 14", "where desk 0 is not", "refused by 19 for the desk", "for a key command", "of another length than it has"};
+    "done", "refused by 4 or 14", "where desk 0 is not", "refused by 19 for the desk", "for a command of the key office's",
+    "of another length than it has"};
 enum { DESKS = 5 };
 static const unsigned desks[DESKS] = {0, 1, 2, 3, 255};
+
+/* What calls find of the log, and what they do to it. */
+enum log_sight { ENTERED, ENTERED_LAST, COUNTED, COUNTED_NO_MORE, ABOVE_ROOM, NO_ROOM, ODD_LIST, DUMPED_NONE, DUMPED_SOME, DUMPED_ALL, ERASED, LOG_SIGHTS };
+static const char *const log_sight_names[LOG_SIGHTS] = {
+    "kept", "kept as the last there is room for", "dropped", "dropped where no more are counted", "in a log that counts more than it has room for",
+    "in a list without room", "in a list of another length", "dumps of none", "of some", "of 256", "erased"};
 
 /* The commands that ask for a key's state. */
 enum { ABOUT_KEYS = 4, KEY_STATES = 3, PREFIX = SEQUENCE_LENGTH - 4 };
@@ -84,6 +92,8 @@ struct run {
     uint64_t desks[4][DESKS][DESK_SIGHTS];           /* call, desk */
     uint64_t unseen;                                 /* calls of a desk tried again with all that it does not see made anew */
     uint64_t blind_trips;                            /* round trips to a desk that does not see the association */
+    uint64_t reports[DESK_COUNT][ANSWERS][2];        /* checks by desk and answer, with an alarm before and without */
+    uint64_t log[LOG_SIGHTS];
 };
 
 /* The entry that an input is made for. An empty image has none, and gets an association that it does not hold. */
@@ -624,7 +634,8 @@ static unsigned answer_to_office(const struct input *input)
 {
     static struct effect effect;
     const struct call call = {input->image, input->image_length, input->numbers, input->numbers_length, KEY_OFFICE, input->kind,
-                              input->check_field != 0, input->spi, input->frame, input->frame_length, input->output_length};
+                              input->check_field != 0, input->spi, input->frame, input->frame_length, input->output_length,
+                              &input->record.notes, input->record.events, input->record.events_length};
     if (input->which == CALL_SECURE) {
         reading_secure(&call, &effect);
     } else if (input->which == CALL_CHECK) {
@@ -647,13 +658,37 @@ static void count_desk(struct run *run, const struct input *before, const struct
     uint64_t *sights = run->desks[before->which][desk];
     bool is_unknown = outcome->answer == 4 || outcome->answer == 14;
     unsigned tag = before->which == CALL_COMMAND && before->frame_length != 0 ? before->frame[0] : TAG_PING;
-    bool is_about_keys = tag == TAG_ACTIVATION || tag == TAG_DEACTIVATION || tag == TAG_INVENTORY;
     sights[DONE_TO_DESK] += outcome->answer == 0;
     sights[UNKNOWN_TO_DESK] += is_unknown;
     sights[SEEN_BY_OFFICE] += is_unknown && answer_to_office(before) != outcome->answer;
     sights[NOT_A_DESK] += outcome->answer == 19 && before->desk > 2;
-    sights[NOT_ITS_COMMAND] += outcome->answer == 19 && is_about_keys;
-    sights[SHORT_OR_LONG] += outcome->answer == 19 && is_about_keys && answer_to_office(before) == 13;
+    sights[NOT_ITS_COMMAND] += outcome->answer == 19 && is_office_only(tag);
+    sights[SHORT_OR_LONG] += outcome->answer == 19 && is_office_only(tag) && answer_to_office(before) == 13;
+}
+
+/* What was told the notes, and in which state they were. */
+static void count_notes(struct run *run, const struct input *before, const struct outcome *outcome)
+{
+    const struct notes *notes = &before->record.notes;
+    size_t room = room_for_events(before->record.events_length), kept = kept_in(&before->record);
+    if (before->which == CALL_CHECK && before->desk < DESK_COUNT) {
+        run->reports[before->desk][outcome->answer][(notes->reports[before->desk][0] & 8) != 0]++;
+    }
+    if (is_event(before)) {
+        run->log[ENTERED] += kept < room;
+        run->log[ENTERED_LAST] += kept + 1 == room;
+        run->log[COUNTED] += kept == room && notes->dropped != UINT32_MAX;
+        run->log[COUNTED_NO_MORE] += kept == room && notes->dropped == UINT32_MAX;
+        run->log[ABOVE_ROOM] += notes->kept > room;
+        run->log[NO_ROOM] += room == 0;
+        run->log[ODD_LIST] += before->record.events_length != 768;
+    } else if (before->which == CALL_COMMAND && outcome->answer == 0) {
+        bool is_dump = before->frame[0] == TAG_DUMP;
+        run->log[DUMPED_NONE] += is_dump && kept == 0;
+        run->log[DUMPED_SOME] += is_dump && kept != 0;
+        run->log[DUMPED_ALL] += is_dump && kept == MOST_EVENTS;
+        run->log[ERASED] += !is_dump && notes->kept != 0;
+    }
 }
 
 static void count_command(struct run *run, const struct input *before, const struct target *target, const struct outcome *outcome)
@@ -715,6 +750,7 @@ static void try_isolation(struct run *run, const struct input *before, const str
     struct outcome other = both_run(&run->random, &input);
     if (other.answer != outcome->answer || other.length != outcome->length || other.stores != outcome->stores
         || memcmp(input.output, after->output, input.output_length) != 0
+        || memcmp(input.record.notes.reports, after->record.notes.reports, sizeof input.record.notes.reports) != 0
         || input.numbers[target->entry] != after->numbers[target->entry]) {
         both_fail("another association's body changed what came back");
     }
@@ -734,7 +770,8 @@ static void try_unseen(struct run *run, const struct input *before, const struct
     change_unseen(&run->random, &input);
     struct outcome other = both_run(&run->random, &input);
     if (other.answer != outcome->answer || other.length != outcome->length || other.stores != outcome->stores
-        || memcmp(input.output, after->output, input.output_length) != 0) {
+        || memcmp(input.output, after->output, input.output_length) != 0
+        || memcmp(input.record.notes.reports, after->record.notes.reports, sizeof input.record.notes.reports) != 0) {
         both_fail("an association that the desk does not see changed what came back");
     }
     run->unseen++;
@@ -755,6 +792,7 @@ static struct outcome run_input(struct run *run, struct input *input, const stru
         count_outcome(run, input, target, &outcome);
     }
     count_desk(run, &before, &outcome);
+    count_notes(run, &before, &outcome);
     if (input->which != CALL_LOAD && random_percent(&run->random, 5)) {
         try_isolation(run, &before, target, &outcome, input);
     }
@@ -764,6 +802,7 @@ static struct outcome run_input(struct run *run, struct input *input, const stru
     if (is_own) {
         end_of_input(end, input);
     }
+    notes_of_input(end, input);
     return outcome;
 }
 
@@ -806,6 +845,9 @@ static void try_load(struct run *run, struct end *end)
     }
     if (random_percent(&run->random, 15)) {
         break_numbers(&run->random, &input);
+    }
+    if (random_percent(&run->random, 12)) { /* of a load, numbers are wrong by their count alone */
+        input.numbers_length = RANDOM_OF(&run->random, 0, 1, 31, 33, 40);
     }
     struct outcome outcome = run_input(run, &input, &target, end);
     if (outcome.answer == 0) {
@@ -1050,7 +1092,7 @@ static size_t octets_of_reply(const struct input *input)
 {
     static struct effect effect;
     const struct call call = {input->image, input->image_length, input->numbers, input->numbers_length, input->desk, 0, false, 0, input->frame,
-                              input->frame_length, FRAME_ROOM};
+                              input->frame_length, FRAME_ROOM, &input->record.notes, input->record.events, input->record.events_length};
     reading_command(&call, &effect);
     return effect.length == 0 ? 1 : effect.length;
 }
@@ -1083,6 +1125,7 @@ static void try_command(struct run *run, struct end *own)
         run->command_cuts++;
     }
     run_input(run, &input, &target, end);
+    own->record = end->record;
 }
 
 static void try_raise(struct run *run, const struct end *end)
@@ -1156,11 +1199,11 @@ static bool command_can_give(size_t tag, unsigned answer)
     case 0: case 1: case 2: case 13: case 19:
         return true;
     case 6:
-        return reply_length(every_tag[tag]) != 0 || every_tag[tag] == TAG_INVENTORY;
+        return has_reply(every_tag[tag]);
     case 14:
         return names_spi(every_tag[tag]);
     case 15:
-        return names_spi(every_tag[tag]) && every_tag[tag] != TAG_SET_NUMBER && reply_length(every_tag[tag]) == 0;
+        return names_spi(every_tag[tag]) && every_tag[tag] != TAG_SET_NUMBER && !has_reply(every_tag[tag]);
     case 16:
         return every_tag[tag] == TAG_START || every_tag[tag] == TAG_REKEY || every_tag[tag] == TAG_SET_WINDOW || every_tag[tag] == TAG_SET_NUMBER;
     case 17: case 18:
@@ -1248,6 +1291,26 @@ static unsigned print_desks(const struct run *run)
     printf("calls tried again with all that the desk does not see made anew: %" PRIu64
            "; frames refused at a desk that does not see the association: %" PRIu64 "\n", run->unseen, run->blind_trips);
     return faults + (run->unseen == 0) + (run->blind_trips == 0);
+}
+
+/* Every answer to a check reached the report of every desk, whether or not it had an alarm; 19 is no desk's. */
+static unsigned print_notes(const struct run *run)
+{
+    unsigned faults = print_counts("log", LOG_SIGHTS, log_sight_names, run->log);
+    for (unsigned desk = 0; desk < DESK_COUNT; desk++) {
+        printf("reports of desk %u, without an alarm before and with one, by answer:", desk);
+        for (unsigned answer = 0; answer < ANSWERS; answer++) {
+            bool can_be = answer <= 8 || answer == 12;
+            const uint64_t *counts = run->reports[desk][answer];
+            if (can_be) {
+                printf(" %u: %" PRIu64 " %" PRIu64, answer, counts[0], counts[1]);
+            }
+            faults += (counts[0] != 0) != can_be;
+            faults += (counts[1] != 0) != can_be;
+        }
+        putchar('\n');
+    }
+    return faults;
 }
 
 static unsigned print_commands(const struct run *run)
@@ -1382,7 +1445,7 @@ int main(int argument_count, char **arguments)
         run_world(&run, world++);
     }
     unsigned faults = print_tally(&run) + print_commands(&run);
-    unsigned never_asked = print_asked(&run) + print_desks(&run);
+    unsigned never_asked = print_asked(&run) + print_desks(&run) + print_notes(&run);
     unsigned missing = print_secondary(&run, 0) + print_secondary(&run, 1) + (run.stamped_flips == 0);
     faults += run.options.count >= ENOUGH_FOR_EVERY_LENGTH ? missing : 0;
     printf("differential: seed %" PRIu64 ", %" PRIu64 " inputs in %" PRIu64 " worlds, of them %" PRIu64 " cuts, %" PRIu64 " cuts of commands and %" PRIu64

@@ -112,6 +112,8 @@ struct totals {
 };
 static struct totals totals;
 static size_t length_of_link; /* for the driver */
+static xistalvo_notes notes;  /* in memory alone, and not kept */
+static uint8_t events[XISTALVO_EVENTS_LENGTH];
 
 static uint32_t number_in(const uint8_t *frame)
 {
@@ -178,7 +180,7 @@ static void manage(struct link *link, unsigned end, struct kept *kept, const uin
 {
     uint8_t none[1];
     bool is_about_keys = command[0] == XISTALVO_TAG_ACTIVATION || command[0] == XISTALVO_TAG_DEACTIVATION;
-    uint64_t result = xistalvo_command(lent(link, end, kept), link->length, kept->numbers, XISTALVO_NUMBERS,
+    uint64_t result = xistalvo_command(&notes, events, sizeof events, lent(link, end, kept), link->length, kept->numbers, XISTALVO_NUMBERS,
                                        is_about_keys ? XISTALVO_KEY_OFFICE : link->desk, command, length, none, 0);
     if (XISTALVO_ANSWER(result) != answer) {
         both_fail("a command is answered otherwise than the state that was kept says");
@@ -346,8 +348,9 @@ static void check_frames(struct link *link, int pipe_end)
             manage_association(link, 1, &kept);
         }
         memcpy(&released, &link->sent[i], sizeof released);
-        uint64_t result = xistalvo_check(lent(link, 1, &kept), link->length, kept.numbers, XISTALVO_NUMBERS, link->desk, XISTALVO_TC,
-                                         XISTALVO_NO_CHECK_FIELD, link->sent[i].octets, FRAME_LENGTH, released.octets + 11, DATA_LENGTH);
+        uint64_t result = xistalvo_check(&notes, events, sizeof events, lent(link, 1, &kept), link->length, kept.numbers, XISTALVO_NUMBERS,
+                                         link->desk, XISTALVO_TC, XISTALVO_NO_CHECK_FIELD, link->sent[i].octets, FRAME_LENGTH,
+                                         released.octets + 11, DATA_LENGTH);
         if (XISTALVO_ANSWER(result) == XISTALVO_DONE && keep(link, 1, &kept)) {
             tell(pipe_end, &released, sizeof released);
         }

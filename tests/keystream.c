@@ -130,6 +130,8 @@ static void watch(void)
 static struct association association;
 static uint8_t image[LARGEST_IMAGE], frame[LARGEST_FRAME];
 static uint32_t numbers[NUMBER_COUNT];
+static xistalvo_notes notes;
+static uint8_t events[XISTALVO_EVENTS_LENGTH];
 static size_t image_length, frame_length, output_length;
 static uint64_t result;
 static ucontext_t here, there;
@@ -138,8 +140,8 @@ static void run_call(void)
 {
     frame_of_caller = __builtin_frame_address(0);
     __asm__ volatile("int3");
-    result = xistalvo_check(image, image_length, numbers, NUMBER_COUNT, XISTALVO_KEY_OFFICE, (uint8_t)association.kind, XISTALVO_NO_CHECK_FIELD,
-                            frame, frame_length, output, output_length);
+    result = xistalvo_check(&notes, events, sizeof events, image, image_length, numbers, NUMBER_COUNT, XISTALVO_KEY_OFFICE,
+                            (uint8_t)association.kind, XISTALVO_NO_CHECK_FIELD, frame, frame_length, output, output_length);
     __asm__ volatile("int3");
 }
 

@@ -1,5 +1,5 @@
 /* Random runs of loads, sendings, checks and management commands at both ends of a link, with power failing after any stored octet, and demand 3
- * of document 01, as requests 5, 9 and 10 of document 02 have it, held to what really went out and was really released, association by
+ * of document 01, as requests 5, 9, 10 and 11 of document 02 have it, held to what really went out and was really released, association by
  * association, over all channels of one together:
  *
  *   no number goes out twice, and none is released twice;
@@ -11,6 +11,9 @@
  * And of demand 2: what one end secures the other releases where its number is in the window, and refuses by 8 where it is not, or where the
  * ends make the IV otherwise; by 7 where the ends hold other keys; and by 4 where the association is not operational there, or is another desk's.
  * Calls come from every desk, and from desks that there are not, which are refused by 19.
+ *
+ * And of request 11: each end has its notes all through a run. Every check and command that was not cut, dump and erase excepted, is counted here too,
+ * and kept plus dropped is that count since the last erase; a cut leaves the notes as they were, and so does a load.
  *
  *   power_cuts [--seed S] [--count N] [--from W]
  *
@@ -80,7 +83,9 @@ struct run {
     uint64_t half_ids;                                     /* key IDs of which a cut left one octet new and one old */
     uint64_t other_keys, other_ivs;                        /* frames refused because the ends held other keys, or make the IV otherwise */
     uint64_t by_desk[3], cut_by_desk[3];                   /* calls done, and cut */
-    uint64_t unseen, no_desks, not_theirs;                 /* refused: another's SPI; by 19, for the desk, or for a command about keys */
+    uint64_t unseen, no_desks, not_theirs;                 /* refused: another's SPI; by 19, for the desk, or for a command of the office's */
+    uint64_t events[2];                                    /* by end: those since the last erase, and what was there at the start */
+    uint64_t noted, full, erases;                          /* events, and of them those that found the log full; erases done */
 };
 
 static void association_of(const struct run *run, size_t side, size_t entry, struct association *association)
@@ -88,6 +93,30 @@ static void association_of(const struct run *run, size_t side, size_t entry, str
     struct table table;
     table_of(&run->world.ends[side], &table);
     *association = table.entries[entry];
+}
+
+/* ---- the notes ---- */
+
+static uint64_t events_told(const struct end *end) { return (uint64_t)kept_in(&end->record) + end->record.notes.dropped; }
+
+/* Keeps for an end what a call that was not cut left of its notes, and counts the call. */
+static void note_call(struct run *run, size_t side, unsigned answer)
+{
+    struct end *end = &run->world.ends[side];
+    bool is_counted = is_event(&run->input);
+    bool is_full = kept_in(&end->record) == room_for_events(end->record.events_length);
+    run->noted += is_counted;
+    run->full += is_counted && is_full;
+    run->events[side] += is_counted;
+    if (run->input.which == CALL_COMMAND && run->input.frame[0] == TAG_ERASE && answer == 0) {
+        run->erases++;
+        run->events[side] = 0;
+    }
+    notes_of_input(end, &run->input);
+    bool is_stuck = end->record.notes.dropped == UINT32_MAX;
+    if (is_stuck ? events_told(end) > run->events[side] : events_told(end) != run->events[side]) {
+        both_fail("kept plus dropped is not the number of the events since the last erase");
+    }
 }
 
 /* ---- a restart ---- */
@@ -196,12 +225,12 @@ static unsigned answer_to_desk(struct run *run, const struct association *associ
 }
 
 /* Most calls come from a desk that may make them, so that most of a run is spent on what is done. */
-static uint8_t desk_for(struct run *run, const struct association *association, bool is_about_keys)
+static uint8_t desk_for(struct run *run, const struct association *association, bool is_the_office)
 {
     if (random_percent(&run->random, 10)) {
         return any_desk(&run->random, association);
     }
-    return (uint8_t)(is_about_keys || random_percent(&run->random, 40) ? KEY_OFFICE : association->owner);
+    return (uint8_t)(is_the_office || random_percent(&run->random, 40) ? KEY_OFFICE : association->owner);
 }
 
 /* Prepares a sending of one to twenty octets of data. */
@@ -307,6 +336,7 @@ static void check(struct run *run, size_t side, size_t entry)
     const struct sent_frame *frame = prepare_check(run, side, entry, &association);
     uint32_t last = run->input.numbers[entry];
     struct outcome outcome = both_run(&run->random, &run->input);
+    note_call(run, side, outcome.answer);
     unsigned due = answer_to_desk(run, &association);
     if (!run->is_tampered && outcome.answer != (due != 0 ? due : answer_due(run, frame, &association, last))) {
         both_fail("demand 2: a frame as it was sent was not released in the window, or not refused by 8 outside it or for its IV, by 7 for its key "
@@ -405,8 +435,8 @@ static void prepare_command(struct run *run, size_t side, size_t entry, struct a
         any_key_named(run, side, association);
         make_command(&run->random, input, every_tag[random_below(&run->random, TAG_COUNT)], association, input->numbers[entry]);
     }
-    input->desk = desk_for(run, association, !names_spi(input->frame[0]));
-    input->output_length = SMALL_FRAME;
+    input->desk = desk_for(run, association, is_office_only(input->frame[0]) || input->frame[0] == TAG_PING);
+    input->output_length = input->frame[0] == TAG_DUMP ? LARGEST_FRAME : SMALL_FRAME;
 }
 
 /* The entry that the prepared command names, which need not be the one it was made for; the count where it names none. */
@@ -503,12 +533,11 @@ static void judge_key_command(const struct end *before, const struct end *after,
 static void judge_desk(struct run *run, size_t side, size_t entry, unsigned answer)
 {
     struct association association = {.owner = run->input.desk};
-    bool is_about_keys = !names_spi(run->input.frame[0]) && run->input.frame[0] != TAG_PING;
     if (entry < run->count) {
         association_of(run, side, entry, &association);
     }
     unsigned due = answer_to_desk(run, &association);
-    if (due == 0 && run->input.desk != 0 && is_about_keys) {
+    if (due == 0 && run->input.desk != 0 && is_office_only(run->input.frame[0])) {
         due = 19;
         run->not_theirs++;
     }
@@ -524,6 +553,7 @@ static void command(struct run *run, size_t side, size_t for_entry)
     prepare_command(run, side, for_entry, &association);
     size_t entry = entry_named(run, side);
     struct outcome outcome = both_run(&run->random, &run->input);
+    note_call(run, side, outcome.answer);
     judge_desk(run, side, entry, outcome.answer);
     if (outcome.answer != 0) {
         run->refused++;
@@ -535,7 +565,7 @@ static void command(struct run *run, size_t side, size_t for_entry)
     if (entry < run->count) {
         judge_command(&before, &run->world.ends[side], entry, &run->input);
         note_command(run, side, entry, run->input.frame[0]);
-    } else if (run->input.frame[0] != TAG_PING) {
+    } else if (is_about_keys(run->input.frame[0])) {
         judge_key_command(&before, &run->world.ends[side], &run->input);
     }
 }
@@ -695,6 +725,12 @@ static void start_run(struct run *run, uint64_t number)
     }
     memset(run->histories, 0, sizeof run->histories);
     run->iv_count = 0;
+    for (size_t side = 0; side < 2; side++) {
+        if (random_percent(&run->random, 50)) {
+            both_freshen(&run->random, &run->world.ends[side].record);
+        }
+        run->events[side] = events_told(&run->world.ends[side]);
+    }
 }
 
 static void step(struct run *run)
@@ -744,15 +780,17 @@ static void print_commands(const struct run *run)
            run->shared, run->changed_keys, run->other_keys, run->other_ivs);
     printf("calls done and cut, by desk 0, 1, 2: %" PRIu64 " %" PRIu64 ", %" PRIu64 " %" PRIu64 ", %" PRIu64 " %" PRIu64
            "; calls about another desk's association: %" PRIu64
-           ", from a desk that there is not: %" PRIu64 ", commands about keys from a laboratory: %" PRIu64 "\n",
+           ", from a desk that there is not: %" PRIu64 ", commands of the key office from a laboratory: %" PRIu64 "\n",
            run->by_desk[0], run->cut_by_desk[0], run->by_desk[1], run->cut_by_desk[1], run->by_desk[2], run->cut_by_desk[2], run->unseen,
            run->no_desks, run->not_theirs);
+    printf("events: %" PRIu64 ", of them %" PRIu64 " where the log was full; erases: %" PRIu64 "\n", run->noted, run->full, run->erases);
 }
 
-/* Every command was done, and every one but ping was cut; keys were shared and changed. */
+/* Every command was done, and every one that stores was cut; keys were shared and changed; the log was full, and was erased. */
 static bool commands_are_enough(const struct run *run)
 {
-    bool is_enough = run->lifted > 0 && run->odd_windows > 0 && run->unseen > 0 && run->no_desks > 0 && run->not_theirs > 0;
+    bool is_enough = run->lifted > 0 && run->odd_windows > 0 && run->unseen > 0 && run->no_desks > 0 && run->not_theirs > 0 && run->erases > 0
+        && run->full > 0;
     for (size_t desk = 0; desk < 3; desk++) {
         is_enough = is_enough && run->by_desk[desk] > 0 && run->cut_by_desk[desk] > 0;
     }
@@ -760,7 +798,8 @@ static bool commands_are_enough(const struct run *run)
         is_enough = is_enough && run->half_ids > 0 && run->shared > 0 && run->changed_keys > 0 && run->other_keys > 0 && run->other_ivs > 0;
     }
     for (size_t tag = 0; tag < TAG_COUNT; tag++) {
-        is_enough = is_enough && run->commands[tag] > 0 && (run->cut_commands[tag] > 0 || every_tag[tag] == TAG_PING);
+        bool stores = (names_spi(every_tag[tag]) || is_about_keys(every_tag[tag])) && !has_reply(every_tag[tag]);
+        is_enough = is_enough && run->commands[tag] > 0 && (run->cut_commands[tag] > 0 || !stores);
     }
     return is_enough;
 }

@@ -1,6 +1,7 @@
 /* Calls whose keys and data are secret, for valgrind: each octet of a key, in its body or in the key part, and of a frame's data is marked as
  * undefined, so that memcheck names every place at which the compiled module branches on something made of them, or reads memory where something
- * made of them says. tests/secrets runs it and holds what is named to a list. Of an inventory it asks itself that no octet is made of a key.
+ * made of them says. tests/secrets runs it and holds what is named to a list. Of an inventory, of the notes and of the events it asks itself that no octet
+ * is made of a key or of data.
  *
  * What goes out is no secret: a secured frame is marked as defined before it is checked, but for its data and MAC, and so is a result. A check
  * field is made of what it covers and is no secret either: it is written before the octets are hidden. */
@@ -16,6 +17,8 @@ enum { HEADER = 5, SPI = 9, FIELD = 2, KEYS = 3 };
 
 static uint8_t images[2][LARGEST_IMAGE], clear[LARGEST_FRAME], secured[LARGEST_FRAME], opened[LARGEST_FRAME];
 static uint32_t numbers[2][NUMBER_COUNT];
+static xistalvo_notes notes;
+static uint8_t events[XISTALVO_EVENTS_LENGTH];
 static size_t image_length;
 static bool is_on_ground; /* which engine's calls are made */
 static bool has_field;    /* whether frames end in a check field */
@@ -66,8 +69,9 @@ static void check(size_t data, size_t before, uint8_t change, uint8_t change_of_
         secured[length - 1] ^= change_of_field;
     }
     hide(secured + before, data + MAC_LENGTH);
-    need((is_on_ground ? xistalvo_ground_check : xistalvo_check)(images[1], image_length, numbers[1], NUMBER_COUNT, XISTALVO_KEY_OFFICE, XISTALVO_TC,
-                                                                 has_field, secured, length, opened, sizeof opened),
+    need((is_on_ground ? xistalvo_ground_check : xistalvo_check)(&notes, events, sizeof events, images[1], image_length, numbers[1], NUMBER_COUNT,
+                                                                 XISTALVO_KEY_OFFICE, XISTALVO_TC, has_field, secured, length, opened,
+                                                                 sizeof opened),
          answer, "check");
     show(secured, length);
     secured[end - 1] ^= change;
@@ -99,8 +103,8 @@ static void round_trip(unsigned service, size_t data)
 static void list_keys(void)
 {
     static const uint8_t inventory[XISTALVO_INVENTORY_LENGTH] = {XISTALVO_TAG_INVENTORY, 0, 4, 0, 0, 0xFF, 0xFF};
-    uint64_t result = xistalvo_command(images[0], image_length, numbers[0], NUMBER_COUNT, XISTALVO_KEY_OFFICE, inventory, sizeof inventory, opened,
-                                       sizeof opened);
+    uint64_t result = xistalvo_command(&notes, events, sizeof events, images[0], image_length, numbers[0], NUMBER_COUNT, XISTALVO_KEY_OFFICE,
+                                       inventory, sizeof inventory, opened, sizeof opened);
     need(result, XISTALVO_DONE, "command");
     if (XISTALVO_LENGTH(result) != XISTALVO_INVENTORY_REPLY_LENGTH(KEYS)
         || VALGRIND_CHECK_MEM_IS_DEFINED(opened, XISTALVO_INVENTORY_REPLY_LENGTH(KEYS)) != 0) {
@@ -124,6 +128,10 @@ int main(void)
         if (version == 3) {
             list_keys();
         }
+    }
+    if (VALGRIND_CHECK_MEM_IS_DEFINED(&notes, sizeof notes) != 0 || VALGRIND_CHECK_MEM_IS_DEFINED(events, sizeof events) != 0) {
+        fputs("secrets: a report or the log is made of keys or of data\n", stderr);
+        exit(1);
     }
     return 0;
 }

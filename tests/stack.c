@@ -19,6 +19,8 @@ static ucontext_t here, there;
 /* What the calls are lent, and what they return. */
 static uint8_t images[2][LARGEST_IMAGE], clear[LARGEST_FRAME], secured[LARGEST_FRAME], opened[LARGEST_FRAME];
 static uint32_t numbers[2][NUMBER_COUNT];
+static xistalvo_notes notes;
+static uint8_t events[XISTALVO_EVENTS_LENGTH];
 static size_t image_length, clear_length, secured_length;
 static uint8_t kind, check_field;
 static uint64_t result;
@@ -33,8 +35,8 @@ static void call_secure(void)
 
 static void call_check(void)
 {
-    result = xistalvo_check(images[1], image_length, numbers[1], NUMBER_COUNT, XISTALVO_KEY_OFFICE, kind, check_field, secured, secured_length,
-                            opened, sizeof opened);
+    result = xistalvo_check(&notes, events, sizeof events, images[1], image_length, numbers[1], NUMBER_COUNT, XISTALVO_KEY_OFFICE, kind, check_field,
+                            secured, secured_length, opened, sizeof opened);
 }
 
 static void call_ground_secure(void)
@@ -45,8 +47,8 @@ static void call_ground_secure(void)
 
 static void call_ground_check(void)
 {
-    result = xistalvo_ground_check(images[1], image_length, numbers[1], NUMBER_COUNT, XISTALVO_KEY_OFFICE, kind, check_field, secured, secured_length,
-                                   opened, sizeof opened);
+    result = xistalvo_ground_check(&notes, events, sizeof events, images[1], image_length, numbers[1], NUMBER_COUNT, XISTALVO_KEY_OFFICE, kind,
+                                   check_field, secured, secured_length, opened, sizeof opened);
 }
 
 static void call_raise(void)
@@ -59,7 +61,8 @@ static void call_command(void)
 {
     static uint8_t command[XISTALVO_SET_NUMBER_LENGTH];
     xistalvo_make_set_number(MOST_ENTRIES, numbers[0][MOST_ENTRIES - 1] + XISTALVO_LARGEST_STEP, command, sizeof command);
-    result = xistalvo_command(images[0], image_length, numbers[0], NUMBER_COUNT, XISTALVO_KEY_OFFICE, command, sizeof command, opened, sizeof opened);
+    result = xistalvo_command(&notes, events, sizeof events, images[0], image_length, numbers[0], NUMBER_COUNT, XISTALVO_KEY_OFFICE, command,
+                              sizeof command, opened, sizeof opened);
 }
 
 static void call_command_cut(void)
@@ -71,12 +74,32 @@ static void call_command_cut(void)
     result = made == 1 ? 0 : UINT64_MAX;
 }
 
-/* Of all keys, which version 4 has; the reply is the longest there is. */
+/* Of all keys, which version 4 has; the reply is the longest but for a dump's. */
 static void call_inventory(void)
 {
     static uint8_t command[XISTALVO_INVENTORY_LENGTH];
     xistalvo_make_inventory(0, 65535, command, sizeof command);
-    result = xistalvo_command(images[0], image_length, numbers[0], NUMBER_COUNT, XISTALVO_KEY_OFFICE, command, sizeof command, opened, sizeof opened);
+    result = xistalvo_command(&notes, events, sizeof events, images[0], image_length, numbers[0], NUMBER_COUNT, XISTALVO_KEY_OFFICE, command,
+                              sizeof command, opened, sizeof opened);
+}
+
+/* Of 256 events: the longest reply there is. */
+static void call_dump(void)
+{
+    static uint8_t command[XISTALVO_NOTE_COMMAND_LENGTH];
+    notes.kept = XISTALVO_MOST_EVENTS;
+    xistalvo_make_dump(command, sizeof command);
+    result = xistalvo_command(&notes, events, sizeof events, images[0], image_length, numbers[0], NUMBER_COUNT, XISTALVO_KEY_OFFICE, command,
+                              sizeof command, opened, sizeof opened);
+    if (XISTALVO_LENGTH(result) != XISTALVO_LARGEST_REPLY) {
+        result = UINT64_MAX;
+    }
+}
+
+static void call_fresh_notes(void)
+{
+    xistalvo_fresh_notes(&notes);
+    result = 0;
 }
 
 static void (*current_call)(void);
@@ -186,6 +209,8 @@ int main(void)
                  {"check", call_check, XISTALVO_STACK},
                  {"command", call_command, XISTALVO_STACK},
                  {"inventory", call_inventory, XISTALVO_STACK},
+                 {"dump", call_dump, XISTALVO_STACK},
+                 {"fresh_notes", call_fresh_notes, XISTALVO_STACK},
                  {"raise", call_raise, XISTALVO_STACK},
                  {"command_cut", call_command_cut, XISTALVO_STACK},
                  {"ground_secure", call_ground_secure, XISTALVO_GROUND_STACK},

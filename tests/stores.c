@@ -1,9 +1,10 @@
-/* What the compiled module really writes, one instruction after another. Image and output are lent read-only; each write faults, is let
- * through alone, and what it changed is noted. Document 01, 'Managed numbers' and 'What comes back', says what must then be seen:
+/* What the compiled module really writes, one instruction after another. Image, output, notes and the list of events are lent read-only; each write
+ * faults, is let through alone, and what it changed is noted. Document 01, 'Managed numbers' and 'What comes back', and request 11 of document 02 say
+ * what must then be seen:
  *
  *   after each write the image is the one after the first j stores, j only rising, and in the end after all of them;
- *   the output is written only after that;
- *   a refused call writes neither.
+ *   the output is written only after that, and so are notes and events, which are what the request says in the end;
+ *   a refused call writes neither image nor output.
  *
  * So power may fail between any two instructions. A proof speaks of the language's machine; this speaks of what a compiler made of it, on the
  * calls that are tried. It stops after one instruction by the trap flag of an x86-64 processor, or by a breakpoint that it puts behind the
@@ -101,7 +102,7 @@ static void go_on(ucontext_t *context)
 
 /* ---- watching ---- */
 
-static struct guarded image_area, output_area;
+static struct guarded image_area, output_area, notes_area, events_area;
 
 /* What was seen during one call. */
 static struct {
@@ -111,12 +112,18 @@ static struct {
     uint8_t output[FRAME_ROOM];                     /* after the last write */
     bool output_has_begun;
     bool store_came_late;                           /* the image changed after the output had begun */
+    size_t note_writes;                             /* into notes and events */
+    uint8_t notes[sizeof(xistalvo_notes)], events[EVENTS_ROOM];
+    bool notes_have_begun;
+    bool store_came_behind_notes;                   /* the image changed after notes or events had */
 } seen;
 
-static void protect_both(enum lend_access access)
+static void protect_all(enum lend_access access)
 {
     guarded_protect(&image_area, access);
     guarded_protect(&output_area, access);
+    guarded_protect(&notes_area, access);
+    guarded_protect(&events_area, access);
 }
 
 static void note_image(void)
@@ -129,6 +136,7 @@ static void note_image(void)
     }
     memcpy(seen.states[seen.state_count++], image_area.range, image_area.length);
     seen.store_came_late = seen.store_came_late || seen.output_has_begun;
+    seen.store_came_behind_notes = seen.store_came_behind_notes || seen.notes_have_begun;
 }
 
 static void note_output(void)
@@ -136,6 +144,16 @@ static void note_output(void)
     if (memcmp(output_area.range, seen.output, output_area.length) != 0) {
         seen.output_has_begun = true;
         memcpy(seen.output, output_area.range, output_area.length);
+    }
+}
+
+static void note_notes(void)
+{
+    if (notes_area.length != 0
+        && (memcmp(notes_area.range, seen.notes, notes_area.length) != 0 || memcmp(events_area.range, seen.events, events_area.length) != 0)) {
+        seen.notes_have_begun = true;
+        memcpy(seen.notes, notes_area.range, notes_area.length);
+        memcpy(seen.events, events_area.range, events_area.length);
     }
 }
 
@@ -148,11 +166,13 @@ static bool lies_in(const struct guarded *area, const uint8_t *address)
 static void on_write(int signal_number, siginfo_t *information, void *context)
 {
     (void)signal_number;
-    if (!lies_in(&image_area, information->si_addr) && !lies_in(&output_area, information->si_addr)) {
+    bool is_note = lies_in(&notes_area, information->si_addr) || lies_in(&events_area, information->si_addr);
+    if (!is_note && !lies_in(&image_area, information->si_addr) && !lies_in(&output_area, information->si_addr)) {
         both_fail("the module touched memory that it was not lent");
     }
-    seen.writes++;
-    protect_both(LEND_WRITABLE);
+    seen.writes += !is_note;
+    seen.note_writes += is_note;
+    protect_all(LEND_WRITABLE);
     stop_after_one(context);
 }
 
@@ -164,7 +184,8 @@ static void on_step(int signal_number, siginfo_t *information, void *context)
     go_on(context);
     note_image();
     note_output();
-    protect_both(LEND_READ_ONLY);
+    note_notes();
+    protect_all(LEND_READ_ONLY);
 }
 
 static void watch(void)
@@ -178,6 +199,18 @@ static void watch(void)
     sigaction(SIGTRAP, &action, NULL);
 }
 
+static xistalvo_notes *lend_record(const struct record *record)
+{
+    xistalvo_notes notes;
+    memcpy(notes.reports, record->notes.reports, sizeof notes.reports);
+    notes.kept = record->notes.kept;
+    notes.dropped = record->notes.dropped;
+    memcpy(seen.notes, &notes, sizeof notes);
+    memcpy(seen.events, record->events, record->events_length);
+    guarded_lend(&events_area, record->events, record->events_length, LEND_AT_END, LEND_READ_ONLY);
+    return (xistalvo_notes *)(void *)guarded_lend(&notes_area, &notes, sizeof notes, LEND_AT_END, LEND_READ_ONLY);
+}
+
 static void call_watched(struct input *input)
 {
     memset(&seen, 0, sizeof seen);
@@ -186,21 +219,36 @@ static void call_watched(struct input *input)
     memcpy(seen.output, input->output, input->output_length);
     guarded_lend(&image_area, input->image, input->image_length, LEND_AT_END, LEND_READ_ONLY);
     guarded_lend(&output_area, input->output, input->output_length, LEND_AT_END, LEND_READ_ONLY);
+    xistalvo_notes *notes = lend_record(&input->record);
+    uint8_t *events = events_area.range;
+    size_t events_length = input->record.events_length;
     bool is_on_ground = input->frame_length % 2 == 1; /* either engine, by a property of the input that nothing else turns on */
     if (input->which == CALL_SECURE) {
         (is_on_ground ? xistalvo_ground_secure : xistalvo_secure)(image_area.range, input->image_length, input->numbers, NUMBER_COUNT, input->desk,
                                                                   input->kind, input->check_field, input->spi, input->frame, input->frame_length,
                                                                   output_area.range, input->output_length);
     } else if (input->which == CALL_COMMAND) {
-        xistalvo_command(image_area.range, input->image_length, input->numbers, NUMBER_COUNT, input->desk, input->frame, input->frame_length,
-                         output_area.range, input->output_length);
+        xistalvo_command(notes, events, events_length, image_area.range, input->image_length, input->numbers, NUMBER_COUNT, input->desk,
+                         input->frame, input->frame_length, output_area.range, input->output_length);
     } else {
-        (is_on_ground ? xistalvo_ground_check : xistalvo_check)(image_area.range, input->image_length, input->numbers, NUMBER_COUNT, input->desk,
-                                                                input->kind, input->check_field, input->frame, input->frame_length, output_area.range,
-                                                                input->output_length);
+        (is_on_ground ? xistalvo_ground_check : xistalvo_check)(notes, events, events_length, image_area.range, input->image_length, input->numbers,
+                                                                NUMBER_COUNT, input->desk, input->kind, input->check_field, input->frame,
+                                                                input->frame_length, output_area.range, input->output_length);
     }
     guarded_take_back(&image_area);
     guarded_take_back(&output_area);
+    guarded_take_back(&notes_area);
+    guarded_take_back(&events_area);
+}
+
+/* Notes and events as the reading says. */
+static bool notes_are_right(const struct input *before, const struct effect *effect)
+{
+    struct record expected = before->record;
+    const xistalvo_notes *notes = (const xistalvo_notes *)(const void *)notes_area.range;
+    carry_out_notes(effect, &expected.notes, expected.events);
+    return memcmp(notes->reports, expected.notes.reports, sizeof notes->reports) == 0 && notes->kept == expected.notes.kept
+        && notes->dropped == expected.notes.dropped && memcmp(events_area.range, expected.events, expected.events_length) == 0;
 }
 
 /* Each state seen is the image after the first j stores, with j rising to all. A compiler may join stores that nothing lies between; a cut
@@ -222,7 +270,8 @@ static bool states_are_cuts(const struct input *before, const struct effect *eff
 }
 
 struct totals {
-    uint64_t calls, done, refused, stores, states;
+    uint64_t calls, done, refused, stores, states, note_writes;
+    uint64_t noted_behind_stores;  /* calls that stored and then changed notes or events */
     uint64_t commands[TAG_COUNT]; /* done */
     uint64_t halves;              /* set window, seen with its first octet stored and its second not yet */
     uint64_t thirds;              /* rekey from version 3 on, seen after each of its three stores */
@@ -240,6 +289,14 @@ static void judge(const struct input *before, const struct effect *effect, struc
     if (seen.store_came_late) {
         both_fail("the output was written before the last store in the image");
     }
+    if (seen.store_came_behind_notes) {
+        both_fail("a report or an event was written before the last store in the image");
+    }
+    if (before->which == CALL_SECURE ? seen.note_writes != 0 : !notes_are_right(before, effect)) {
+        both_fail("notes or events are not what they should be, or were written by a sending");
+    }
+    totals->note_writes += seen.note_writes;
+    totals->noted_behind_stores += effect->store_count != 0 && seen.notes_have_begun;
     totals->calls++;
     totals->done += effect->answer == 0;
     totals->refused += effect->answer != 0;
@@ -256,7 +313,8 @@ static void judge(const struct input *before, const struct effect *effect, struc
 static void read_document(const struct input *input, struct effect *effect)
 {
     struct call call = {input->image, input->image_length, input->numbers, input->numbers_length, input->desk, input->kind,
-                        input->check_field != 0, input->spi, input->frame, input->frame_length, input->output_length};
+                        input->check_field != 0, input->spi, input->frame, input->frame_length, input->output_length,
+                        &input->record.notes, input->record.events, input->record.events_length};
     if (input->which == CALL_SECURE) {
         reading_secure(&call, effect);
     } else if (input->which == CALL_COMMAND) {
@@ -309,7 +367,7 @@ static void make_command_input(struct random *random, struct end *end, struct in
     if (random_percent(random, 10)) {
         break_command(random, input);
     }
-    input->output_length = random_percent(random, 90) ? 4 * DATA_MOST : random_below(random, 200);
+    input->output_length = random_percent(random, 90) ? (tag == TAG_DUMP ? LARGEST_FRAME : 4 * DATA_MOST) : random_below(random, 200);
     random_octets(random, input->output, input->output_length);
 }
 
@@ -317,7 +375,7 @@ static void make_command_input(struct random *random, struct end *end, struct in
  * every desk were done and refused. */
 static bool commands_are_enough(const struct totals *totals)
 {
-    bool is_enough = totals->halves > 0 && totals->thirds > 0 && totals->by_desk[3][1] > 0;
+    bool is_enough = totals->halves > 0 && totals->thirds > 0 && totals->by_desk[3][1] > 0 && totals->noted_behind_stores > 0;
     for (size_t desk = 0; desk < 3; desk++) {
         is_enough = is_enough && totals->by_desk[desk][0] > 0 && totals->by_desk[desk][1] > 0;
     }
@@ -357,14 +415,17 @@ int main(int argument_count, char **arguments)
     both_prepare("stores");
     image_area = guarded_new();
     output_area = guarded_new();
+    notes_area = guarded_new();
+    events_area = guarded_new();
     watch();
     for (uint64_t i = 0; i < options.count; i++) {
         try_one(options, options.from + i, &totals);
     }
     printf("stores: seed %" PRIu64 ", %" PRIu64 " calls, %" PRIu64 " done and %" PRIu64 " refused; %" PRIu64 " stores, %" PRIu64
-           " of them seen singly, those of %" PRIu64 " rekeys among them; every image between two instructions was that of a cut, and no output "
-           "came before the last store\n",
-           options.seed, totals.calls, totals.done, totals.refused, totals.stores, totals.states, totals.thirds);
+           " of them seen singly, those of %" PRIu64 " rekeys among them; %" PRIu64 " writes into notes and events, by %" PRIu64
+           " calls behind stores; every image between two instructions was that of a cut, and no output, report or event came before the last store\n",
+           options.seed, totals.calls, totals.done, totals.refused, totals.stores, totals.states, totals.thirds, totals.note_writes,
+           totals.noted_behind_stores);
     if (options.count >= ENOUGH_FOR_EVERY_COMMAND && !commands_are_enough(&totals)) {
         puts("stores: too few commands were watched");
         return 1;

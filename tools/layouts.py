@@ -609,7 +609,7 @@ def packed_result():
     bit = FULL / 64
     fields = [
         ("0", 63, 48, FIXED, []),
-        ("answer", 47, 40, SORT, ["0 to 18"]),
+        ("answer", 47, 40, SORT, ["0 to 19"]),
         ("stores", 39, 32, NUMBER, ["0 to 16"]),
         ("length", 31, 0, LENGTH, ["octets of the result"]),
     ]
@@ -637,6 +637,65 @@ def packed_result():
         p.text(LEFT, y, " ".join([digits[:4], digits[4:6], digits[6:8], digits[8:]]), 13, "start")
         p.text(LEFT + 230, y, words, 13, "start")
     p.note(y + 30, "A refusal has length 0 and 0 stores.")
+    return p
+
+
+# ---- notes: reports and log
+
+REPORT = [
+    ("type", 1, FIXED, "1"),
+    ("version", 3, FIXED, "100"),
+    ("alarm", 1, SORT, "0, 1"),
+    ("number", 1, SORT, "bad: 1"),
+    ("MAC", 1, SORT, "bad: 1"),
+    ("assoc.", 1, SORT, "bad: 1"),
+    ("SPI, first octet", 8, NUMBER, "of the frame that was checked last"),
+    ("SPI, last octet", 8, NUMBER, ""),
+    ("number", 8, NUMBER, "low octet of the association's; 0 after 4"),
+]
+
+
+def report():
+    note = "It rides in an operational control field as it is. Type 1 says that it is no link control word."
+    p = header("report", "A frame security report: 4 octets for each desk", note, REPORT, 4)
+    y = p.bottom + 34
+    rows = [
+        ("0", "no flag; SPI and number; the alarm stays as it was"),
+        ("1, 2, 3, 12", "the alarm is set, and nothing else changes"),
+        ("4", "bad association; SPI, and 0 for the number; the alarm is set"),
+        ("5, 6", "no flag; SPI and number; the alarm is set"),
+        ("7", "bad MAC; SPI and number; the alarm is set"),
+        ("8", "bad number; SPI and number; the alarm is set"),
+    ]
+    p.text(LEFT, y, "Answer to a check, and what its desk's report then says", 13, "start", "bold")
+    for answer, words in rows:
+        y += 22
+        p.text(LEFT, y, answer, 12.5, "start")
+        p.text(LEFT + 110, y, words, 12.5, "start")
+    p.note(y + 28, "An alarm reset clears the alarm of the desk that gives it. A fresh report is C0 00 00 00.")
+    return p
+
+
+def log():
+    p = Picture("notes", "Notes, as a caller in C has them: a struct of 20 octets, and a list of events beside it")
+    heading(p, p.title, "Octets are counted from the first of the struct, or of the list.")
+    wide = 80
+    reports = [(f"report, desk {i}", 4, TRAILER, ["4 octets"], 34) for i in range(3)]
+    counts = [("kept", 4, LENGTH, ["0 to 256"], 34), ("dropped", 4, LENGTH, ["to 2^32 - 1"], 34)]
+    assert octet_row(p, 96, "struct", reports + counts, 54) == 20
+    event = [("desk", 1, SORT, ["as named"], wide), ("tag", 1, SORT, ["0: check"], wide), ("answer", 1, SORT, ["0 to 19"], wide)]
+    at = octet_row(p, 200, "list", event, 54)
+    assert octet_row(p, 200, "", [], 54, at) == 3
+    x = LEFT + 3 * wide
+    for words, fill, place in (("...", FREE, ""), ("event kept - 1", FREE, "3 kept - 3"), ("may hold anything", FREE, "3 kept")):
+        width = 60 if words == "..." else 168
+        p.text(x + 4, 194, place, 11.5, "start", colour=SOFT)
+        p.box(x, 200, width, 54, fill, [words], dashes="5 4" if words == "may hold anything" else "")
+        x += width
+    p.text(x + 4, 194, "768", 11.5, "start", colour=SOFT)
+    p.note(288, "Counts are numbers of the processor's own. Where kept has reached 256, an event is counted as dropped and not written.")
+    p.note(306, "A list of another length has room for as many whole events as fit, at most 256. An erase sets both counts to 0.")
+    legend(p, 334, [(TRAILER, "rides in an OCF"), (LENGTH, "says how many"), (SORT, "which of several"), (FREE, "may hold anything")])
     return p
 
 
@@ -679,6 +738,9 @@ def commands():
         ("activation", "02", "2", [key]),
         ("deactivation", "03", "2", [key]),
         ("inventory", "07", "4", [(100, NUMBER, ["first ID", "2 octets"], 2), (100, NUMBER, ["last ID", "2 octets"], 2)]),
+        ("dump", "33", "0", []),
+        ("erase", "34", "0", []),
+        ("alarm reset", "37", "0", []),
     ]
     replies = [
         ("status", "9F", "3", [spi, (84, SORT, ["state", "1 octet"], 1)]),
@@ -687,6 +749,9 @@ def commands():
         ("inventory", "87", "2 + 3n", [(84, LENGTH, ["count n", "2 octets"], 2), (90, NUMBER, ["key ID", "2 octets"], 2),
                                        (70, SORT, ["state", "1 octet"], 1), (50, FREE, ["..."], "2+3n"), (104, NUMBER, ["key ID n", "2 octets"], "4+3n"),
                                        (84, SORT, ["state n", "1 octet"], "5+3n")]),
+        ("dump", "B3", "5n", [(70, SORT, ["tag", "1 octet"], 1), (84, LENGTH, ["2", "2 octets"], 2), (70, SORT, ["desk", "1 octet"], 1),
+                              (76, SORT, ["answer", "1 octet"], 1), (50, FREE, ["..."], "5n-2"), (170, FREE, ["event n", "5 octets"], "3+5n")]),
+        ("erase", "B4", "4", [(110, FIXED, ["events: 0", "2 octets"], 2), (130, LENGTH, ["free space: 768", "2 octets"], 2)]),
     ]
     y = 84
     for row in rows:
@@ -698,7 +763,7 @@ def commands():
         command_row(p, y, *row)
         y += 74
     p.note(y - 4, "A start names N channels, one or more. Rekey has key ID 0 below version 3. An inventory lists n keys, none to 64.", 24)
-    p.note(y + 14, "The other commands have no reply.", 24)
+    p.note(y + 14, "A dump has n events, none to 256, the oldest first; tag 0 is a check. The other commands have no reply.", 24)
     y += 18
     meanings = [(SORT, "which of several"), (LENGTH, "says how long"), (NUMBER, "for the number"), (NAMES, "names a channel"), (FIXED, "fixed")]
     legend(p, y + 22, meanings, 24)
@@ -787,20 +852,40 @@ GROUND = {
 MANAGEMENT = {
     "named_keys": (204, 1, 166, DATA, "the key that one names"),
     "command_form": (378, 2, 166, DATA, "form, channels"),
-    "inventory": (378, 3, 332, DATA, "the keys of a range, listed"),
-    "procedures": (24, 4, 686, DATA, "what a command may call, a record each"),
-    "plans": (204, 5, 160, DATA, "the stores of each"),
-    "replies": (376, 5, 150, DATA, "the reply of each"),
-    "addressing": (538, 5, 172, DATA, "desk, form and SPI"),
-    "commands": (204, 6, 506, DATA, "the command call: decided, then carried out"),
-    "command_promises": (24, 7, 340, FREE, "theorems alone"),
-    "desks": (24, 8, 340, FREE, "theorems on two runs side by side"),
+    "inventory": (378, 3, 316, DATA, "the keys of a range, listed"),
+    "procedures": (204, 4, 490, DATA, "what a command may call, a record each"),
+    "conditions": (112, 5, 114, DATA, "of its value"),
+    "plans": (234, 5, 100, DATA, "its stores"),
+    "replies": (342, 5, 100, DATA, "its reply"),
+    "key_conditions": (450, 5, 130, DATA, "of its key"),
+    "addressing": (588, 5, 122, DATA, "desk, form, SPI"),
+    "deciding": (112, 6, 468, DATA, "the tests under the entry that it names"),
+    "commands": (204, 7, 506, DATA, "the command call: decided, then carried out"),
+    "command_promises": (24, 8, 340, FREE, "theorems alone"),
+    "desks": (24, 9, 340, FREE, "theorems on two runs side by side"),
 }
 
 
-# Crates of theorems that show that no promise is empty: one box in the picture of the layers.
-WITNESSES = {
-    "witness_frames", "round_trip_witnesses", "answer_witnesses", "bit_witnesses", "run_witnesses", "isolation_witnesses", "desk_witnesses",
+# The crates of reports and log.
+NOTES = {
+    "reports": (24, 1, 96, TRAILER, "reports"),
+    "event_log": (128, 1, 96, TRAILER, "the log"),
+    "notes": (24, 2, 200, TRAILER, "both, as a caller has them"),
+    "note_commands": (24, 3, 466, DATA, "dump, erase and alarm reset"),
+    "noting": (24, 4, 686, DATA, "a check and a command, and what each tells the notes"),
+    "noted_calls": (24, 6, 160, FREE, "these, for C"),
+    "noted_promises": (212, 6, 330, FREE, "theorems alone"),
+    "noted_desks": (212, 7, 498, FREE, "theorems on two runs side by side"),
+}
+
+
+# Crates that are one box in the picture of the layers. Those of theorems show that no promise is empty.
+TOGETHER = {
+    "witnesses": {
+        "witness_frames", "round_trip_witnesses", "answer_witnesses", "bit_witnesses", "header_bit_witnesses", "secured_bit_witnesses", "run_witnesses", "isolation_witnesses", "desk_witnesses", "noted_witnesses",
+    },
+    "word_cipher": {"word_rounds", "word_cipher"},
+    "cmac": {"subkeys", "message_blocks", "cmac"},
 }
 
 
@@ -850,21 +935,45 @@ def ground():
 def management():
     module = {
         "image": (204, 0, 340, NUMBER, "contents, the whole rule"),
-        "writing": (552, 0, 158, FREE, "text into an output"),
+        "writing": (552, 2, 142, FREE, "text into an output"),
+        "judging": (552, 1, 158, DATA, "the tests of a call"),
         "association": (378, 1, 166, NUMBER, "search, entries"),
         "verdicts": (24, 2, 172, DATA, "tests under an entry"),
-        "link": (24, 5, 172, DATA, "the calls; load"),
-        "promises": (24, 6, 172, FREE, "theorems alone"),
-        "lent_calls": (372, 7, 338, FREE, "the calls over what C lends"),
+        "link": (24, 3, 80, DATA, "calls; load"),
+        "promises": (24, 7, 172, FREE, "theorems alone"),
+        "lent_calls": (372, 8, 338, FREE, "the calls over what C lends"),
     }
     arrows = [
-        ("desks", "command_promises", 194), ("command_promises", "promises", 110), ("command_promises", "commands", 284), ("lent_calls", "commands", 541), ("commands", "plans", 284),
-        ("commands", "replies", 451), ("commands", "addressing", 624), ("plans", "procedures", 284), ("replies", "procedures", 451),
-        ("addressing", "procedures", 624), ("procedures", "verdicts", 110), ("procedures", "named_keys", 287), ("procedures", "inventory", 544),
-        ("inventory", "command_form", 461), ("inventory", "writing", 631), ("command_form", "association", 461), ("association", "image", 461),
-        ("named_keys", "image", 287), ("promises", "link", 110),
+        ("desks", "command_promises", 194), ("command_promises", "promises", 110), ("command_promises", "commands", 284), ("lent_calls", "commands", 541),
+        ("commands", "deciding", 394), ("commands", "addressing", 649), ("deciding", "conditions", 169), ("deciding", "plans", 284),
+        ("deciding", "replies", 392), ("deciding", "key_conditions", 515), ("conditions", "verdicts", 150), ("conditions", "procedures", 215),
+        ("plans", "procedures", 284), ("replies", "procedures", 392), ("key_conditions", "procedures", 515), ("addressing", "procedures", 641), ("addressing", "judging", 702),
+        ("procedures", "named_keys", 287), ("procedures", "inventory", 544), ("inventory", "command_form", 461), ("inventory", "writing", 623),
+        ("command_form", "association", 461), ("association", "image", 461), ("named_keys", "image", 287), ("promises", "link", 48),
     ]
-    return beside(Picture("management", "The crates of management commands"), MANAGEMENT, module, arrows, [("commands", "link", 214, 160)])
+    return beside(Picture("management", "The crates of management commands"), MANAGEMENT, module, arrows, [("commands", "link", 214, 84)])
+
+
+def noting():
+    module = {
+        "octets": (24, 0, 686, FIXED, "lists of octets"),
+        "command_form": (232, 2, 130, DATA, "form, channels"),
+        "link": (370, 2, 120, DATA, "the calls; load"),
+        "checking": (498, 3, 100, DATA, "check"),
+        "commands": (606, 3, 104, DATA, "command"),
+        "lent_calls": (24, 5, 128, FREE, "the others"),
+        "promises": (198, 5, 190, FREE, "theorems alone"),
+        "command_promises": (404, 5, 306, FREE, "theorems alone"),
+        "desks": (556, 6, 154, FREE, "of two runs"),
+    }
+    arrows = [
+        ("noted_desks", "noted_promises", 377), ("noted_desks", "desks", 633), ("noted_promises", "noting", 396),
+        ("noted_promises", "command_promises", 471), ("desks", "command_promises", 633), ("noted_calls", "lent_calls", 88), ("noted_calls", "noting", 178),
+        ("noting", "note_commands", 257), ("noting", "checking", 548), ("noting", "commands", 658), ("note_commands", "notes", 124),
+        ("note_commands", "command_form", 297), ("note_commands", "link", 430), ("notes", "reports", 72), ("notes", "event_log", 176),
+        ("reports", "octets", 72), ("event_log", "octets", 176),
+    ]
+    return beside(Picture("noting", "The crates of reports and log"), NOTES, module, arrows, [])
 
 
 def layers():
@@ -881,9 +990,9 @@ def layers():
         "cipher": (24, 3, 170, MAC, "AES-256"),
         "columns": (24, 4, 170, MAC, "a state as four words"),
         "word_tables": (24, 5, 170, MAC, "tables of a round"),
-        "word_cipher": (24, 6, 170, MAC, "AES-256 on words"),
+        "word_cipher": (24, 6, 170, MAC, "on words: two crates"),
         "engines": (24, 7, 170, MAC, "either, by one call"),
-        "cmac": (24, 8, 112, MAC, "CMAC"),
+        "cmac": (24, 8, 112, MAC, "three crates"),
         "gctr": (145, 8, 98, MAC, "counter mode"),
         "gcm": (145, 9, 199, MAC, "GCM: seal, open"),
         "headers": (372, 1, 234, NAMES, "header fields"),
@@ -915,7 +1024,7 @@ def layers():
         "promises": (538, 14, 172, FREE, "theorems alone"),
         "lent_calls": (24, 15, 506, FREE, "the calls over what C lends"),
         "link_c": (24, 16, 506, FREE, "the C interface"),
-        "witnesses": (538, 15, 172, FREE, "not empty: seven crates"),
+        "witnesses": (538, 15, 172, FREE, "not empty: 11 crates"),
     }
     programs = {
         "link_cases": (7, "runs the calls"),
@@ -927,7 +1036,7 @@ def layers():
         "lines": (1, "lines of text for them"),
     }
     arrows = [
-        ("witnesses", "promises", 624), ("promises", "link", 624), ("link_c", "lent_calls", 277), ("lent_calls", "securing", 137), ("lent_calls", "checking", 370), ("lent_calls", "lent", 505),
+        ("witnesses", "promises", 624), ("promises", "link", 624), ("link_c", "lent_calls", 277), ("lent_calls", "securing", 137), ("lent_calls", "lent", 505),
         ("securing", "verdicts", 137), ("checking", "verdicts", 310), ("checking", "admission", 420), ("link", "judging", 624),
         ("lent", "judging", 500), ("admission", "judging", 417), ("verdicts", "judging", 352), ("verdicts", "sealing", 99),
         ("verdicts", "opening", 257), ("judging", "protection", 525), ("sealing", "security_header", 99),
@@ -947,11 +1056,13 @@ def layers():
         ("checking", "link", 476, 560), ("sealing", "protection", 160, 365), ("opening", "protection", 320, 365),
     ]
     needed = stands_on()
-    needed["witnesses"] = set().union(*(needed.pop(name) for name in WITNESSES)) - WITNESSES
-    assert set(needed) == set(boxes) | set(programs) | set(GROUND) | set(MANAGEMENT), "crates.txt has other crates"
+    for box, crates in TOGETHER.items():
+        needed[box] = set().union(*(needed.pop(name) for name in crates)) - crates
+    apart = set(MANAGEMENT) | set(NOTES)
+    assert set(needed) == set(boxes) | set(programs) | set(GROUND) | apart, "crates.txt has other crates"
     drawn = arrows + [(above, below, x) for above, below, x, _ in bent]
     for name in boxes:
-        assert needed[name] - set(MANAGEMENT) <= everything_below(name, drawn), f"an arrow is missing: {name}"
+        assert needed[name] - apart <= everything_below(name, drawn), f"an arrow is missing: {name}"
         direct = {below for above, below, _ in drawn if above == name}
         assert direct <= needed[name], f"an arrow too many: {name}"
 
@@ -980,7 +1091,7 @@ def layers():
 
 PICTURES = [tc_header, tc_segment_header, tm_header, aos_header, lambda: secured(1), lambda: secured(2), check_field, image, body]
 PICTURES += [image_keys, body_keys, body_desks, desks, initialization_vector, key_states]
-PICTURES += [commands, channel_names, states, packed_result, layers, management, ground]
+PICTURES += [commands, report, log, channel_names, states, packed_result, layers, management, noting, ground]
 
 
 def main(checking):

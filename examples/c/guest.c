@@ -11,6 +11,8 @@ enum { COUNT = 2, KEYS = 2, FURNACE = 20, CAMERA = 21, OWN_KEY = 1, GUEST_KEY = 
 static uint8_t image[XISTALVO_IMAGE_LENGTH_4(COUNT, KEYS)];
 static size_t image_length;
 static uint32_t numbers[XISTALVO_NUMBERS];
+static xistalvo_notes notes; /* of all desks: each has a report of its own in them, and the key office alone reads the log */
+static uint8_t events[XISTALVO_EVENTS_LENGTH];
 
 static const char *const desks[] = {"the key office", "the laboratory", "the guest", "nobody"};
 
@@ -56,7 +58,8 @@ static void bring_to_version_4(void)
 static void command(uint8_t desk, const char *what, const uint8_t *octets, size_t length)
 {
     uint8_t reply[XISTALVO_LARGEST_REPLY];
-    say(desk, what, xistalvo_command(image, image_length, numbers, XISTALVO_NUMBERS, desk, octets, length, reply, sizeof reply));
+    say(desk, what, xistalvo_command(&notes, events, sizeof events, image, image_length, numbers, XISTALVO_NUMBERS, desk, octets, length, reply,
+                                     sizeof reply));
 }
 
 static void send(uint8_t desk, const char *what, uint16_t spi, uint8_t channel)
@@ -72,6 +75,7 @@ int main(void)
     uint8_t octets[XISTALVO_REKEY_LENGTH];
     uint32_t channel = xistalvo_channel_name(XISTALVO_AOS, SPACECRAFT, CAMERA_CHANNEL, 0);
     make_old_image();
+    xistalvo_fresh_notes(&notes);
     printf("load: %s\n", xistalvo_answer_name(XISTALVO_ANSWER(xistalvo_load(image, image_length, numbers, XISTALVO_NUMBERS))));
     send(XISTALVO_DESK_1, "a frame of the furnace, version 3", FURNACE, FURNACE_CHANNEL);
     bring_to_version_4();
@@ -92,9 +96,11 @@ int main(void)
     command(XISTALVO_DESK_2, "status of the furnace", octets, xistalvo_make_spi_alone(XISTALVO_TAG_STATUS, FURNACE, octets, sizeof octets));
     command(XISTALVO_DESK_2, "status of SPI 99", octets, xistalvo_make_spi_alone(XISTALVO_TAG_STATUS, 99, octets, sizeof octets));
     command(XISTALVO_DESK_2, "inventory of all keys", octets, xistalvo_make_inventory(0, 65535, octets, sizeof octets));
+    command(XISTALVO_DESK_2, "dump of the log", octets, xistalvo_make_dump(octets, sizeof octets));
     command(XISTALVO_DESK_1, "stop of the camera", octets, xistalvo_make_spi_alone(XISTALVO_TAG_STOP, CAMERA, octets, sizeof octets));
     command(XISTALVO_KEY_OFFICE, "status of the furnace", octets, xistalvo_make_spi_alone(XISTALVO_TAG_STATUS, FURNACE, octets, sizeof octets));
     command(XISTALVO_KEY_OFFICE, "inventory of all keys", octets, xistalvo_make_inventory(0, 65535, octets, sizeof octets));
+    command(XISTALVO_KEY_OFFICE, "dump of the log", octets, xistalvo_make_dump(octets, sizeof octets));
     command(3, "ping", octets, xistalvo_make_ping(octets, sizeof octets));
     return 0;
 }

@@ -12,6 +12,8 @@ enum { LINK = 9, CAMERA = 20, CAMERA_ENTRY = 1, SPACECRAFT = 27, COUNT = 2, IMAG
 struct end {
     uint8_t image[IMAGE_LENGTH];
     uint32_t numbers[XISTALVO_NUMBERS];
+    xistalvo_notes notes;
+    uint8_t events[XISTALVO_EVENTS_LENGTH];
 };
 
 static struct end ground, space;
@@ -25,6 +27,7 @@ static void make_end(struct end *end, uint8_t link_direction, uint8_t camera_dir
          {0xFF, 0xFF, 0, 0, 0, 0}, {2}, 0},
     };
     xistalvo_make_image(XISTALVO_IMAGE_VERSION, associations, COUNT, end->image, IMAGE_LENGTH);
+    xistalvo_fresh_notes(&end->notes);
     xistalvo_load(end->image, IMAGE_LENGTH, end->numbers, XISTALVO_NUMBERS);
 }
 
@@ -37,8 +40,8 @@ static void say(const char *what, uint64_t result)
 static void carry_out(const char *what, const uint8_t *command, size_t length)
 {
     uint8_t reply[XISTALVO_LARGEST_REPLY];
-    uint64_t result = xistalvo_command(space.image, IMAGE_LENGTH, space.numbers, XISTALVO_NUMBERS, XISTALVO_DESK_1, command, length, reply,
-                                       sizeof reply);
+    uint64_t result = xistalvo_command(&space.notes, space.events, sizeof space.events, space.image, IMAGE_LENGTH, space.numbers, XISTALVO_NUMBERS,
+                                       XISTALVO_DESK_1, command, length, reply, sizeof reply);
     size_t reply_length = XISTALVO_LENGTH(result);
     say(what, result);
     printf("; stores %u", XISTALVO_STORES(result));
@@ -59,8 +62,8 @@ static void command(const char *what, const uint8_t *octets, size_t length)
     memcpy(frame + 5, octets, length);
     uint64_t result = xistalvo_secure(ground.image, IMAGE_LENGTH, ground.numbers, XISTALVO_NUMBERS, XISTALVO_DESK_1, XISTALVO_TC,
                                       XISTALVO_NO_CHECK_FIELD, LINK, frame, 5 + length, secured, sizeof secured);
-    result = xistalvo_check(space.image, IMAGE_LENGTH, space.numbers, XISTALVO_NUMBERS, XISTALVO_DESK_1, XISTALVO_TC, XISTALVO_NO_CHECK_FIELD,
-                            secured, XISTALVO_LENGTH(result), released, sizeof released);
+    result = xistalvo_check(&space.notes, space.events, sizeof space.events, space.image, IMAGE_LENGTH, space.numbers, XISTALVO_NUMBERS,
+                            XISTALVO_DESK_1, XISTALVO_TC, XISTALVO_NO_CHECK_FIELD, secured, XISTALVO_LENGTH(result), released, sizeof released);
     if (XISTALVO_ANSWER(result) == XISTALVO_DONE) {
         carry_out(what, released, XISTALVO_LENGTH(result));
     }
@@ -75,8 +78,9 @@ static void send_picture(void)
     say("  a picture is sent", result);
     if (XISTALVO_ANSWER(result) == XISTALVO_DONE) {
         printf(", number %u;", (unsigned)space.numbers[CAMERA_ENTRY]);
-        say(" on the ground", xistalvo_check(ground.image, IMAGE_LENGTH, ground.numbers, XISTALVO_NUMBERS, XISTALVO_DESK_1, XISTALVO_AOS,
-                                             XISTALVO_NO_CHECK_FIELD, secured, XISTALVO_LENGTH(result), released, sizeof released));
+        say(" on the ground", xistalvo_check(&ground.notes, ground.events, sizeof ground.events, ground.image, IMAGE_LENGTH, ground.numbers,
+                                             XISTALVO_NUMBERS, XISTALVO_DESK_1, XISTALVO_AOS, XISTALVO_NO_CHECK_FIELD, secured,
+                                             XISTALVO_LENGTH(result), released, sizeof released));
     }
     putchar('\n');
 }
@@ -99,8 +103,8 @@ int main(void)
     puts("- The numbers of both ends are raised to 1,000, and the next one sent suits every window.");
     command("set number to 1,000", octets, xistalvo_make_set_number(CAMERA, 1000, octets, sizeof octets));
     size_t length = xistalvo_make_set_number(CAMERA, 1000, octets, sizeof octets);
-    say("set number on the ground", xistalvo_command(ground.image, IMAGE_LENGTH, ground.numbers, XISTALVO_NUMBERS, XISTALVO_DESK_1, octets, length,
-                                                     none, 0));
+    say("set number on the ground", xistalvo_command(&ground.notes, ground.events, sizeof ground.events, ground.image, IMAGE_LENGTH, ground.numbers,
+                                                     XISTALVO_NUMBERS, XISTALVO_DESK_1, octets, length, none, 0));
     putchar('\n');
     send_picture();
 

@@ -11,10 +11,12 @@ struct end {
     const char *name;
     uint8_t image[IMAGE_LENGTH];
     uint32_t numbers[XISTALVO_NUMBERS];
+    xistalvo_notes notes;
+    uint8_t events[XISTALVO_EVENTS_LENGTH];
 };
 
-static struct end ground = {"the ground", {0}, {0}};
-static struct end space = {"the spacecraft", {0}, {0}};
+static struct end ground = {.name = "the ground"};
+static struct end space = {.name = "the spacecraft"};
 
 static void build_image(struct end *end, uint8_t direction)
 {
@@ -23,9 +25,10 @@ static void build_image(struct end *end, uint8_t direction)
     xistalvo_make_image(XISTALVO_IMAGE_VERSION, &association, 1, end->image, IMAGE_LENGTH);
 }
 
-/* After a start, whatever the reason: the image is there, the numbers are not. */
+/* After a start, whatever the reason: the image is there, the numbers and the notes are not. */
 static void start(struct end *end)
 {
+    xistalvo_fresh_notes(&end->notes);
     xistalvo_load(end->image, IMAGE_LENGTH, end->numbers, XISTALVO_NUMBERS);
     printf("%s starts: the last number is %u\n", end->name, (unsigned)end->numbers[ENTRY]);
 }
@@ -42,8 +45,8 @@ static void command(const char *words, int arrives)
         puts(" and is lost");
         return;
     }
-    result = xistalvo_check(space.image, IMAGE_LENGTH, space.numbers, XISTALVO_NUMBERS, XISTALVO_DESK_1, XISTALVO_TC, XISTALVO_NO_CHECK_FIELD,
-                            secured, XISTALVO_LENGTH(result), data, sizeof data);
+    result = xistalvo_check(&space.notes, space.events, sizeof space.events, space.image, IMAGE_LENGTH, space.numbers, XISTALVO_NUMBERS,
+                            XISTALVO_DESK_1, XISTALVO_TC, XISTALVO_NO_CHECK_FIELD, secured, XISTALVO_LENGTH(result), data, sizeof data);
     printf(": %u, %s\n", XISTALVO_ANSWER(result), xistalvo_answer_name(XISTALVO_ANSWER(result)));
 }
 

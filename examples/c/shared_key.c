@@ -16,13 +16,16 @@ struct end {
     uint8_t image[XISTALVO_IMAGE_LENGTH_3(COUNT, KEYS)];
     size_t length;
     uint32_t numbers[XISTALVO_NUMBERS];
+    xistalvo_notes notes;
+    uint8_t events[XISTALVO_EVENTS_LENGTH];
 };
 
-static struct end ground = {"ground", {0}, 0, {0}}, space = {"spacecraft", {0}, 0, {0}};
+static struct end ground = {.name = "ground"}, space = {.name = "spacecraft"};
 
 static void load(struct end *end)
 {
     uint64_t result = xistalvo_load(end->image, end->length, end->numbers, XISTALVO_NUMBERS);
+    xistalvo_fresh_notes(&end->notes);
     printf("%s: load: %u, %s; %u octets, last numbers %u and %u\n", end->name, XISTALVO_ANSWER(result), xistalvo_answer_name(XISTALVO_ANSWER(result)),
            (unsigned)end->length, (unsigned)end->numbers[0], (unsigned)end->numbers[1]);
 }
@@ -57,8 +60,8 @@ static void bring_to_version_3(struct end *end)
 static void command(struct end *end, const char *what, const uint8_t *octets, size_t length)
 {
     uint8_t reply[XISTALVO_LARGEST_REPLY];
-    uint64_t result = xistalvo_command(end->image, end->length, end->numbers, XISTALVO_NUMBERS, XISTALVO_KEY_OFFICE, octets, length, reply,
-                                       sizeof reply);
+    uint64_t result = xistalvo_command(&end->notes, end->events, sizeof end->events, end->image, end->length, end->numbers, XISTALVO_NUMBERS,
+                                       XISTALVO_KEY_OFFICE, octets, length, reply, sizeof reply);
     printf("%s: %s: %u, %s; stores %u", end->name, what, XISTALVO_ANSWER(result), xistalvo_answer_name(XISTALVO_ANSWER(result)),
            XISTALVO_STORES(result));
     if (xistalvo_is_reply(XISTALVO_TAG_INVENTORY, reply, XISTALVO_LENGTH(result))) {
@@ -107,8 +110,9 @@ static void send_picture(size_t camera)
         for (size_t i = 8; i < 20; i++) {
             printf(" %02X", secured[i]);
         }
-        result = xistalvo_check(ground.image, ground.length, ground.numbers, XISTALVO_NUMBERS, XISTALVO_DESK_1, XISTALVO_AOS, XISTALVO_NO_CHECK_FIELD,
-                                secured, XISTALVO_LENGTH(result), released, sizeof released);
+        result = xistalvo_check(&ground.notes, ground.events, sizeof ground.events, ground.image, ground.length, ground.numbers, XISTALVO_NUMBERS,
+                                XISTALVO_DESK_1, XISTALVO_AOS, XISTALVO_NO_CHECK_FIELD, secured, XISTALVO_LENGTH(result), released,
+                                sizeof released);
         printf("; on the ground: %u, %s", XISTALVO_ANSWER(result), xistalvo_answer_name(XISTALVO_ANSWER(result)));
     }
     putchar('\n');

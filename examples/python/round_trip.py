@@ -55,6 +55,7 @@ def main():
 
     result = space.command(xistalvo.DESK_1, xistalvo.READ_NUMBER, SPI.to_bytes(2, "big"))  # over a link, it is what a check released
     print(f"read number: {result}; reply {result.octets.hex(' ').upper()}")
+    print(f"report of desk 1: {space.report(xistalvo.DESK_1).hex(' ').upper()}; events kept {space.notes.kept}")
 
 
 main()

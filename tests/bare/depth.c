@@ -11,6 +11,8 @@ enum { ROOM = 2 * XISTALVO_STACK, COUNT = XISTALVO_MOST_ASSOCIATIONS, PATTERN = 
 
 static uint8_t images[2][XISTALVO_LARGEST_IMAGE], clear[LENGTH], secured[LENGTH], opened[LENGTH];
 static uint32_t numbers[2][XISTALVO_NUMBERS];
+static xistalvo_notes notes;
+static uint8_t events[XISTALVO_EVENTS_LENGTH];
 static size_t clear_length;
 static uint64_t result;
 
@@ -22,8 +24,8 @@ static void call_secure(void)
 
 static void call_check(void)
 {
-    result = xistalvo_check(images[1], sizeof images[1], numbers[1], XISTALVO_NUMBERS, XISTALVO_KEY_OFFICE, XISTALVO_TC, XISTALVO_NO_CHECK_FIELD,
-                            secured, sizeof secured, opened, sizeof opened);
+    result = xistalvo_check(&notes, events, sizeof events, images[1], sizeof images[1], numbers[1], XISTALVO_NUMBERS, XISTALVO_KEY_OFFICE,
+                            XISTALVO_TC, XISTALVO_NO_CHECK_FIELD, secured, sizeof secured, opened, sizeof opened);
 }
 
 /* 32 associations, of which the last is used, with the largest frame; the receiving end's mark is 15 lower. */

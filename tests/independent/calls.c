@@ -1,5 +1,5 @@
 /* Document 01: 'Frames' (from 'A secured frame is'), 'Managed numbers' and 'What comes back'; document 02, request 4: answer 12, request 9:
- * the IV of version 3, and request 10: desks, and answer 19. */
+ * the IV of version 3, request 10: desks, and answer 19, and request 11: what a check tells the notes. */
 #include "ciphers.h"
 #include "reading.h"
 
@@ -229,6 +229,8 @@ void nothing_happens(struct effect *effect)
     effect->store_count = 0;
     effect->gives_numbers = false;
     effect->sets_number = false;
+    effect->changes_notes = false;
+    effect->enters_event = false;
 }
 
 /* 'gives 64m + 63 for each entry, 0 elsewhere' */
@@ -256,6 +258,7 @@ void reading_load(const struct call *call, struct effect *effect)
 struct found {
     struct table table;
     struct header header;
+    unsigned spi; /* of a secured frame */
     size_t entry;
 };
 
@@ -385,8 +388,8 @@ static unsigned answer_of_checking(const struct call *call, struct found *found,
     if (call->has_field && !check_field_is_right(call->frame, call->frame_length)) {
         return 12;
     }
-    unsigned spi = call->frame[found->header.length] * 256u + call->frame[found->header.length + 1];
-    if (!find(&found->table, call, spi, 2, &found->header, &found->entry)) {
+    found->spi = call->frame[found->header.length] * 256u + call->frame[found->header.length + 1];
+    if (!find(&found->table, call, found->spi, 2, &found->header, &found->entry)) {
         return 4;
     }
     const struct association *association = &found->table.entries[found->entry];
@@ -409,17 +412,28 @@ static unsigned answer_of_checking(const struct call *call, struct found *found,
     return 0;
 }
 
+/* 'the entry's number afterwards', which no refusal changes; answers before 5 match no entry. */
+static uint32_t number_afterwards(const struct call *call, const struct found *found, const struct effect *effect)
+{
+    switch (effect->answer) {
+    case 0: return effect->number;
+    case 5: case 6: case 7: case 8: return call->numbers[found->entry];
+    default: return 0;
+    }
+}
+
 /* 'checking in the clear data alone' */
 void reading_check(const struct call *call, struct effect *effect)
 {
     struct found found;
     size_t length = 0;
     uint32_t number = 0;
+    found.spi = 0;
     nothing_happens(effect);
     effect->answer = answer_of_checking(call, &found, effect->result, &length, &number);
-    if (effect->answer != 0) {
-        return;
+    if (effect->answer == 0) {
+        take_number(effect, &found.table, found.entry, number);
+        effect->length = length;
     }
-    take_number(effect, &found.table, found.entry, number);
-    effect->length = length;
+    notes_after_check(call, found.spi, number_afterwards(call, &found, effect), effect);
 }

@@ -1,11 +1,12 @@
 /* Document 02, request 5: management commands; request 9: key activation, deactivation and inventory, and rekey that names a key; request 10:
- * whose they are. */
+ * whose they are; request 11: dump, erase and alarm reset. */
 #include "reading.h"
 
 #include <string.h>
 
 enum { TAG_LENGTH = 1, LENGTH_LENGTH = 2, FORM_LENGTH = TAG_LENGTH + LENGTH_LENGTH };
 enum { SPI_LENGTH = 2, ID_LENGTH = 2, WINDOW_LENGTH = 2, NAME_LENGTH = 4, AMOUNT_LENGTH = 2, LISTED_LENGTH = ID_LENGTH + 1 };
+enum { DUMPED_LENGTH = FORM_LENGTH + 2 }; /* an event as it is dumped: tag, length, and of the value desk and answer */
 enum { UNKEYED = 0, KEYED = 1, OPERATIONAL = 2 };
 enum { AT_STATE = 3, AT_WINDOW = 8, AT_KEY_ID = 16 }; /* of a body */
 enum { AT_KEY_STATE = 2 };                            /* of a key */
@@ -15,7 +16,8 @@ static const uint64_t GREATEST_NUMBER = 4294967295u;
 
 /* What is known of each command before an image is: its tag, as the request writes it; the value's octets, where start has one name or more;
  * whether it has a reply, and of how many octets of value. */
-enum what { START, STOP, REKEY, EXPIRE, SET_NUMBER, SET_WINDOW, STATUS, READ_NUMBER, PING, ACTIVATION, DEACTIVATION, INVENTORY, COMMANDS };
+enum what { START, STOP, REKEY, EXPIRE, SET_NUMBER, SET_WINDOW, STATUS, READ_NUMBER, PING, ACTIVATION, DEACTIVATION, INVENTORY,
+            DUMP, ERASE, ALARM_RESET, COMMANDS };
 
 static const struct {
     const char *tag;
@@ -35,6 +37,9 @@ static const struct {
     [ACTIVATION] = {"00000010", ID_LENGTH, false, 0},
     [DEACTIVATION] = {"00000011", ID_LENGTH, false, 0},
     [INVENTORY] = {"00000111", 2 * ID_LENGTH, true, AMOUNT_LENGTH}, /* and each key that it lists */
+    [DUMP] = {"00110011", 0, true, 0},                              /* and each event */
+    [ERASE] = {"00110100", 0, true, 2 * AMOUNT_LENGTH},             /* events, and free space */
+    [ALARM_RESET] = {"00110111", 0, false, 0},
 };
 
 /* A command taken apart, and the entry or the key that it is about. */
@@ -45,6 +50,7 @@ struct command {
     struct table table;
     size_t entry;
     size_t key;
+    size_t events; /* that are kept */
 };
 
 static unsigned number_of_digits(const char *digits)
@@ -254,7 +260,8 @@ static bool key_is_in_state(const struct command *command)
 
 /* ---- 19 ---- */
 
-/* '19, desk number above 2, or a key command from desk 1 or 2, given after 2': before 13, so that a key command is known by its tag alone. */
+/* '19, desk number above 2, or a key command from desk 1 or 2, given after 2': before 13, so that a key command is known by its tag alone. '19 also for a
+ * dump or erase from desk 1 or 2.' */
 static bool is_refused_to_desk(const struct call *call)
 {
     enum what what;
@@ -262,14 +269,19 @@ static bool is_refused_to_desk(const struct call *call)
         return true;
     }
     return call->desk != KEY_OFFICE && call->frame_length != 0 && find_tag(call->frame[0], &what)
-        && (what == ACTIVATION || what == DEACTIVATION || what == INVENTORY);
+        && (what == ACTIVATION || what == DEACTIVATION || what == INVENTORY || what == DUMP || what == ERASE);
 }
 
 /* ---- the order: 1, 2, 19, 13, 14, 15, 16, 17, 18, 6 ---- */
 
 static bool names_spi(enum what what)
 {
-    return what != PING && what != ACTIVATION && what != DEACTIVATION && what != INVENTORY;
+    switch (what) {
+    case PING: case ACTIVATION: case DEACTIVATION: case INVENTORY: case DUMP: case ERASE: case ALARM_RESET:
+        return false;
+    default:
+        return true;
+    }
 }
 
 /* The keys that an inventory lists, from the first ID to the last, both included; none where the first is above the last. */
@@ -284,7 +296,7 @@ static size_t reply_value_length(const struct command *command)
     for (size_t i = 0; command->what == INVENTORY && i < command->table.key_count; i++) {
         length += is_listed(command, &command->table.keys[i]) ? LISTED_LENGTH : 0;
     }
-    return length;
+    return command->what == DUMP ? DUMPED_LENGTH * command->events : length;
 }
 
 static unsigned answer_of_command(const struct call *call, struct command *command)
@@ -370,19 +382,101 @@ static void list_keys(const struct command *command, uint8_t *value)
     }
 }
 
+/* Each event in its order, laid out as commands and replies are: its tag, a length of 2, desk and answer. */
+static void list_events(const struct call *call, const struct command *command, uint8_t *value)
+{
+    for (size_t i = 0; i < command->events; i++) {
+        const uint8_t *event = call->events + EVENT_LENGTH * i;
+        *value++ = event[1];
+        *value++ = 0;
+        *value++ = 2;
+        *value++ = event[0];
+        *value++ = event[2];
+    }
+}
+
+/* No event is left, and all of the list is free, so far as whole events fit it. */
+static void tell_free_space(const struct call *call, uint8_t *value)
+{
+    size_t octets = EVENT_LENGTH * room_for_events(call->events_length);
+    value[0] = 0;
+    value[1] = 0;
+    value[2] = (uint8_t)(octets / 256);
+    value[3] = (uint8_t)(octets % 256);
+}
+
 static void reply(const struct call *call, const struct command *command, struct effect *effect)
 {
     uint8_t *value = begin_reply(effect, command);
-    if (command->what == INVENTORY) {
-        list_keys(command, value);
-    } else if (command->what != PING) {
+    if (names_spi(command->what)) {
         memcpy(value, command->value, SPI_LENGTH);
     }
-    if (command->what == STATUS) {
+    switch (command->what) {
+    case STATUS:
         value[SPI_LENGTH] = (uint8_t)command->table.entries[command->entry].state;
-    } else if (command->what == READ_NUMBER) {
+        break;
+    case READ_NUMBER:
         sequence_of_number(call->numbers[command->entry], value + SPI_LENGTH);
+        break;
+    case INVENTORY:
+        list_keys(command, value);
+        break;
+    case DUMP:
+        list_events(call, command, value);
+        break;
+    case ERASE:
+        tell_free_space(call, value);
+        break;
+    default: /* ping */
+        break;
     }
+}
+
+static void carry_out(const struct call *call, const struct command *command, struct effect *effect)
+{
+    switch (command->what) {
+    case START:
+        store(effect, command, AT_STATE, OPERATIONAL);
+        break;
+    case STOP:
+        store(effect, command, AT_STATE, KEYED);
+        break;
+    case REKEY: /* 'state octet stored last' */
+        if (command->table.entries[command->entry].names_key) {
+            store(effect, command, AT_KEY_ID, command->value[SPI_LENGTH]);
+            store(effect, command, AT_KEY_ID + 1, command->value[SPI_LENGTH + 1]);
+        }
+        store(effect, command, AT_STATE, KEYED);
+        break;
+    case ACTIVATION:
+        store_key_state(effect, command, ACTIVE);
+        break;
+    case DEACTIVATION:
+        store_key_state(effect, command, DEACTIVATED);
+        break;
+    case EXPIRE:
+        store(effect, command, AT_STATE, UNKEYED);
+        break;
+    case SET_WINDOW: /* 'a cut may leave either octet new': the first is stored first */
+        store(effect, command, AT_WINDOW, command->value[SPI_LENGTH]);
+        store(effect, command, AT_WINDOW + 1, command->value[SPI_LENGTH + 1]);
+        break;
+    case SET_NUMBER: /* 'raises marks one at a time first' */
+        take_number(effect, &command->table, command->entry, (uint32_t)number_of_octets(command->value + command->value_length - 4, 4));
+        break;
+    case ALARM_RESET:
+        break;
+    default:
+        reply(call, command, effect);
+        break;
+    }
+}
+
+/* What the first octet says, whatever follows it, so far as notes go by it. */
+static bool begins_as(const struct call *call, enum what which)
+{
+    enum what what;
+    return call->frame_length != 0 && find_tag(call->frame[0], &what) && what == which;
 }
 
 void reading_command(const struct call *call, struct effect *effect)
@@ -390,43 +484,12 @@ void reading_command(const struct call *call, struct effect *effect)
     struct command command;
     command.entry = 0;
     command.key = 0;
+    command.events = events_kept(call);
     nothing_happens(effect);
     effect->answer = answer_of_command(call, &command);
-    if (effect->answer != 0) {
-        return;
+    if (effect->answer == 0) {
+        carry_out(call, &command, effect);
     }
-    switch (command.what) {
-    case START:
-        store(effect, &command, AT_STATE, OPERATIONAL);
-        break;
-    case STOP:
-        store(effect, &command, AT_STATE, KEYED);
-        break;
-    case REKEY: /* 'state octet stored last' */
-        if (command.table.entries[command.entry].names_key) {
-            store(effect, &command, AT_KEY_ID, command.value[SPI_LENGTH]);
-            store(effect, &command, AT_KEY_ID + 1, command.value[SPI_LENGTH + 1]);
-        }
-        store(effect, &command, AT_STATE, KEYED);
-        break;
-    case ACTIVATION:
-        store_key_state(effect, &command, ACTIVE);
-        break;
-    case DEACTIVATION:
-        store_key_state(effect, &command, DEACTIVATED);
-        break;
-    case EXPIRE:
-        store(effect, &command, AT_STATE, UNKEYED);
-        break;
-    case SET_WINDOW: /* 'a cut may leave either octet new': the first is stored first */
-        store(effect, &command, AT_WINDOW, command.value[SPI_LENGTH]);
-        store(effect, &command, AT_WINDOW + 1, command.value[SPI_LENGTH + 1]);
-        break;
-    case SET_NUMBER: /* 'raises marks one at a time first' */
-        take_number(effect, &command.table, command.entry, (uint32_t)number_of_octets(command.value + command.value_length - 4, 4));
-        break;
-    default:
-        reply(call, &command, effect);
-        break;
-    }
+    bool is_about_log = begins_as(call, DUMP) || begins_as(call, ERASE);
+    notes_after_command(call, begins_as(call, ERASE) ? ERASES_LOG : begins_as(call, ALARM_RESET) ? RESETS_ALARM : NOTES_NOTHING, is_about_log, effect);
 }

@@ -21,7 +21,11 @@ enum {
     MAC_LENGTH = 16,
     CHECK_FIELD_LENGTH = 2,
     SEQUENCE_LENGTH = 12,   /* an IV's; a number of service 1 has the last 4 octets of it */
-    MOST_STORES = 16        /* 'at most 16 per call' */
+    MOST_STORES = 16,       /* 'at most 16 per call' */
+    DESK_COUNT = 3,
+    REPORT_LENGTH = 4,      /* document 02, request 11: 32 bits */
+    EVENT_LENGTH = 3,       /* 'one event (desk, tag or 0, answer)' */
+    MOST_EVENTS = 256       /* 'one running log record of 256 events' */
 };
 
 /* 'The image': one entry of the contents and its body. */
@@ -140,6 +144,15 @@ void iv_of_number(const struct association *association, uint64_t number, uint8_
 size_t protect_frame(const struct association *association, const struct header *header, const uint8_t sequence[SEQUENCE_LENGTH],
                      const uint8_t *clear, size_t clear_length, uint8_t *secured);
 
+/* Document 02, request 11: reports and log, but for the list of the log's events, of which the first so many as are kept count. */
+struct notes {
+    uint8_t reports[DESK_COUNT][REPORT_LENGTH];
+    uint32_t kept;
+    uint32_t dropped;
+};
+
+void fresh_notes(struct notes *notes);
+
 /* What a caller lends. Of the output only the length counts: no call reads it. */
 struct call {
     const uint8_t *image;
@@ -153,9 +166,12 @@ struct call {
     const uint8_t *frame; /* or, of a command, its octets */
     size_t frame_length;
     size_t output_length;
+    const struct notes *notes; /* checking and commands only */
+    const uint8_t *events;
+    size_t events_length;
 };
 
-/* What is to happen. In a refusal only the answer is other than 0. */
+/* What is to happen. In a refusal only the answer is other than 0, and notes and event: 'A refused call may change report and log and nothing else'. */
 struct effect {
     unsigned answer;
     size_t length;                  /* the result fills the start of the output */
@@ -167,6 +183,11 @@ struct effect {
     bool sets_number;               /* sending, checking and set number: the number of one entry */
     size_t entry;
     uint32_t number;
+    bool changes_notes;             /* checking and commands: the notes as they are to be */
+    struct notes notes;
+    bool enters_event;              /* an event that is kept: where in the list, and its octets */
+    size_t event_at;
+    uint8_t event[EVENT_LENGTH];
 };
 
 void reading_load(const struct call *call, struct effect *effect);
@@ -179,11 +200,22 @@ bool numbers_agree(const struct call *call, const struct table *table);
 void nothing_happens(struct effect *effect);
 void take_number(struct effect *effect, const struct table *table, size_t entry, uint32_t number);
 
+/* The notes of a call whose answer stands: of a check, with the SPI of its frame and the number of the entry that it matched; of a command, with what it
+ * does to them if it is done. And how many events a list of this length has room for, and how many are kept of those that a call is lent. */
+enum note_act { NOTES_NOTHING, RESETS_ALARM, ERASES_LOG };
+void notes_after_check(const struct call *call, unsigned spi, uint32_t number, struct effect *effect);
+void notes_after_command(const struct call *call, enum note_act act, bool is_about_log, struct effect *effect);
+size_t room_for_events(size_t list_length);
+size_t events_kept(const struct call *call);
+
 /* Document 02, request 5: a channel of an association as a command names it, in 32 bits. */
 uint32_t name_of_channel(const struct association *association, unsigned channel);
 
 /* Carries out the first j stores of an effect; j above their number makes them all. */
 void carry_out_stores(const struct effect *effect, size_t j, uint8_t *image);
+
+/* Carries out what an effect does to the notes and to the list of events. A cut call does nothing to them. */
+void carry_out_notes(const struct effect *effect, struct notes *notes, uint8_t *events);
 
 /* The public function of the cut, in place: the first 'stores' raises towards number/64. Gives how many were made. */
 uint32_t reading_raise(uint8_t *image, size_t length, unsigned entry, uint32_t number, uint32_t stores);

@@ -5,7 +5,14 @@
 #include "../independent/reading.h"
 #include "random.h"
 
-enum { IMAGE_ROOM = 4096, NUMBER_ROOM = 48, FRAME_ROOM = 4096 };
+enum { IMAGE_ROOM = 4096, NUMBER_ROOM = 48, FRAME_ROOM = 4096, EVENTS_ROOM = 1024 };
+
+/* What a caller has of notes: the struct, and the list of the log's events. */
+struct record {
+    struct notes notes;
+    uint8_t events[EVENTS_ROOM];
+    size_t events_length;
+};
 
 enum which_call { CALL_LOAD, CALL_SECURE, CALL_CHECK, CALL_COMMAND };
 
@@ -24,6 +31,7 @@ struct input {
     size_t frame_length;
     uint8_t output[FRAME_ROOM];
     size_t output_length;
+    struct record record; /* of checks and commands */
 };
 
 struct outcome {
@@ -38,13 +46,23 @@ void both_prepare(const char *program);
 /* Where a run stands, for what is printed when something differs. */
 void both_at(uint64_t seed, uint64_t stream, uint64_t call);
 
-/* Switches the comparison with the reading off or on again; it starts switched on. Guards and refusals are looked at in any case. */
+/* Switches the comparison with the reading off or on again; it starts switched on. Guards, refusals, and what a call leaves of the notes are looked at
+ * in any case. */
 void both_compare(bool is_on);
 
-/* Runs the module on the input and compares answer, length, stores, image, numbers and output with the reading; looks at every guard octet,
- * and that a refused call changed nothing; and leaves in the input what the module left. Where anything is wrong it prints the input and ends
- * the program with 1. */
+/* Runs the module on the input and compares answer, length, stores, image, numbers, output, notes and events with the reading; looks at every guard
+ * octet, that a refused call changed nothing but the notes, and that these changed by what one call may; and leaves in the input what the module left.
+ * Where anything is wrong it prints the input and ends the program with 1. */
 struct outcome both_run(struct random *random, struct input *input);
+
+/* Lets the module make fresh notes of those in a record, in place. */
+void both_freshen(struct random *random, struct record *record);
+
+/* Whether a call enters an event: a check does, and a command that does not begin as dump and erase do. */
+bool is_event(const struct input *input);
+
+/* How many events a record keeps: those that are counted, so far as its list has room. */
+size_t kept_in(const struct record *record);
 
 /* The same for the cuts, of a call that takes a number and of a command; gives how many stores were made. */
 uint32_t both_raise(struct random *random, uint8_t *image, size_t image_length, uint8_t entry, uint32_t number, uint32_t stores);

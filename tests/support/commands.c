@@ -5,9 +5,9 @@
 enum { FORM = 3, SPI = 2, ID = 2, NAME = 4, MOST_NAMES = 900 };
 
 const unsigned every_tag[TAG_COUNT] = {TAG_START, TAG_STOP, TAG_REKEY, TAG_EXPIRE, TAG_SET_NUMBER, TAG_SET_WINDOW, TAG_STATUS, TAG_READ_NUMBER,
-                                       TAG_PING, TAG_ACTIVATION, TAG_DEACTIVATION, TAG_INVENTORY};
+                                       TAG_PING, TAG_ACTIVATION, TAG_DEACTIVATION, TAG_INVENTORY, TAG_DUMP, TAG_ERASE, TAG_ALARM_RESET};
 const char *const tag_names[TAG_COUNT] = {"start", "stop", "rekey", "expire", "set number", "set window", "status", "read number", "ping",
-                                          "activation", "deactivation", "inventory"};
+                                          "activation", "deactivation", "inventory", "dump", "erase", "alarm reset"};
 
 size_t index_of_tag(unsigned tag)
 {
@@ -24,13 +24,34 @@ size_t reply_length(unsigned tag)
     case TAG_STATUS: return FORM + SPI + 1;
     case TAG_READ_NUMBER: return FORM + SPI + SEQUENCE_LENGTH;
     case TAG_PING: return FORM;
+    case TAG_ERASE: return FORM + 4;
     default: return 0;
     }
 }
 
+bool has_reply(unsigned tag)
+{
+    return reply_length(tag) != 0 || tag == TAG_INVENTORY || tag == TAG_DUMP;
+}
+
 bool names_spi(unsigned tag)
 {
-    return tag != TAG_PING && tag != TAG_ACTIVATION && tag != TAG_DEACTIVATION && tag != TAG_INVENTORY;
+    return tag != TAG_PING && !is_about_keys(tag) && !is_about_notes(tag);
+}
+
+bool is_about_keys(unsigned tag)
+{
+    return tag == TAG_ACTIVATION || tag == TAG_DEACTIVATION || tag == TAG_INVENTORY;
+}
+
+bool is_about_notes(unsigned tag)
+{
+    return tag == TAG_DUMP || tag == TAG_ERASE || tag == TAG_ALARM_RESET;
+}
+
+bool is_office_only(unsigned tag)
+{
+    return is_about_keys(tag) || tag == TAG_DUMP || tag == TAG_ERASE;
 }
 
 static uint8_t *put(uint8_t *to, uint64_t value, size_t octets)
@@ -286,6 +307,9 @@ void make_command(struct random *random, struct input *input, unsigned tag, cons
         put_set_window(input, spi, any_window_asked(random));
         break;
     case TAG_PING:
+    case TAG_DUMP:
+    case TAG_ERASE:
+    case TAG_ALARM_RESET:
         put_command(input, tag, NULL, 0);
         break;
     case TAG_ACTIVATION:

@@ -1,4 +1,4 @@
-/* Random management commands (document 02, requests 5, 9 and 10), with a liking for limits. */
+/* Random management commands (document 02, requests 5, 9, 10 and 11), with a liking for limits. */
 #ifndef COMMANDS_H
 #define COMMANDS_H
 
@@ -17,10 +17,13 @@ enum tag {
     TAG_START = 0x1B,
     TAG_STOP = 0x1E,
     TAG_STATUS = 0x1F,
-    TAG_PING = 0x31
+    TAG_PING = 0x31,
+    TAG_DUMP = 0x33,
+    TAG_ERASE = 0x34,
+    TAG_ALARM_RESET = 0x37
 };
 
-enum { TAG_COUNT = 12 };
+enum { TAG_COUNT = 15 };
 
 extern const unsigned every_tag[TAG_COUNT];
 extern const char *const tag_names[TAG_COUNT];
@@ -28,11 +31,19 @@ extern const char *const tag_names[TAG_COUNT];
 /* Where a tag stands among them, or TAG_COUNT. */
 size_t index_of_tag(unsigned tag);
 
-/* The octets of the reply to a command that is done, where it is no inventory; 0 where it has none. */
+/* The octets of the reply to a command that is done, where it is no inventory and no dump; 0 where it has none. */
 size_t reply_length(unsigned tag);
 
-/* Whether the command names an SPI. */
+/* Whether it has a reply, of whatever length. */
+bool has_reply(unsigned tag);
+
+/* Whether the command names an SPI; whether it is about keys, and whether about the notes. */
 bool names_spi(unsigned tag);
+bool is_about_keys(unsigned tag);
+bool is_about_notes(unsigned tag);
+
+/* Whether it is the key office's alone: those about keys, dump and erase. */
+bool is_office_only(unsigned tag);
 
 /* Puts an entry into a state, mostly that which the command asks for, with a window that this allows, sometimes close to the last numbers
  * there are; from version 3 on the key that the command is about into a state too, which is mostly active, or for activation pre-active. Gives

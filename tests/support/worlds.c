@@ -316,6 +316,30 @@ void make_world(struct random *random, struct world *world, size_t count)
     lay_out_keys(random, &table, &pool);
     set_table(&world->ends[1], &table);
     any_numbers(random, &world->ends[1], &table);
+    any_record(random, &world->ends[0].record);
+    any_record(random, &world->ends[1].record);
+}
+
+void any_record(struct random *random, struct record *record)
+{
+    struct notes *notes = &record->notes;
+    uint32_t chance = random_below(random, 100);
+    bool is_whole = random_percent(random, 70);
+    record->events_length = is_whole ? 768 : RANDOM_OF(random, 0, 1, 2, 3, 5, 6, 767, 769, 770, 771, 800, random_below(random, LONGEST_LIST + 1));
+    size_t room = room_for_events(record->events_length);
+    random_octets(random, record->events, record->events_length);
+    fresh_notes(notes);
+    if (chance < 20) {
+        notes->kept = (uint32_t)room - random_below(random, (uint32_t)(room < 12 ? room : 12) + 1);
+    } else if (chance < 30) {
+        notes->kept = RANDOM_OF(random, (uint32_t)room + 1, 255, 256, 257, 258, 512, 65536, UINT32_MAX);
+    } else if (chance < 45) {
+        notes->kept = (uint32_t)room + random_below(random, 2);
+        notes->dropped = UINT32_MAX - random_below(random, 8);
+    }
+    if (random_percent(random, 25)) {
+        random_octets(random, notes->reports[0], sizeof notes->reports);
+    }
 }
 
 void set_number(struct end *end, size_t entry, uint32_t number)
@@ -494,10 +518,17 @@ void input_of_end(struct input *input, enum which_call which, const struct end *
     input->spi = 0;
     input->frame_length = 0;
     input->output_length = 0;
+    input->record = end->record;
 }
 
 void end_of_input(struct end *end, const struct input *input)
 {
     memcpy(end->image, input->image, end->image_length);
     memcpy(end->numbers, input->numbers, sizeof end->numbers);
+    notes_of_input(end, input);
+}
+
+void notes_of_input(struct end *end, const struct input *input)
+{
+    end->record = input->record;
 }

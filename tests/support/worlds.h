@@ -4,11 +4,12 @@
 
 #include "both.h"
 
-/* One end of a link: an image that breaks no rule, and numbers that agree with it. */
+/* One end of a link: an image that breaks no rule, numbers that agree with it, and notes. */
 struct end {
     uint8_t image[LARGEST_IMAGE];
     size_t image_length;
     uint32_t numbers[NUMBER_COUNT];
+    struct record record;
 };
 
 /* Two ends with the same associations, direction 2 for 1; windows, states, marks and owners are each end's own. Each image is of version 1 to 4;
@@ -20,6 +21,11 @@ struct world {
 };
 
 void make_world(struct random *random, struct world *world, size_t count);
+
+/* Notes and a list of events: mostly fresh ones with a list for 256; some with a list of any length from 0 to 800, with a log that is nearly full, or
+ * full and more, or close to where it counts no further, or with any octets at all. */
+enum { LONGEST_LIST = 800 };
+void any_record(struct random *random, struct record *record);
 
 /* The table of an end's image. */
 void table_of(const struct end *end, struct table *table);
@@ -60,10 +66,11 @@ size_t make_clear_frame(struct random *random, const struct association *associa
 /* A number of data octets from 1, such that most secured frames are small and some are around the largest. */
 size_t any_data_length(struct random *random, const struct association *association);
 
-/* Sets the input's image and numbers to an end's; the desk is the key office's, which sees all. */
+/* Sets the input's image, numbers and notes to an end's; the desk is the key office's, which sees all. */
 void input_of_end(struct input *input, enum which_call which, const struct end *end);
 
-/* Keeps for the end what the module left in the input. */
+/* Keeps for the end what the module left in the input; of a call that was refused, or made with another image, its notes alone. */
 void end_of_input(struct end *end, const struct input *input);
+void notes_of_input(struct end *end, const struct input *input);
 
 #endif

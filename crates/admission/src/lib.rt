@@ -4,3 +4,4 @@ mod wanted;
 
 pub use admission::admit_receiving;
 pub use admission::admit_sending;
+pub use wanted::spi_received;

@@ -3,6 +3,7 @@ use association::Wanted;
 use judging::Said;
 use kinds::Framing;
 use kinds::Named;
+use kinds::kind_of;
 use octets::two_at;
 ghost use mathlib.Core.Path.{_≡_};
 ghost use Rattle.kinds.specs.Kinds.{framed, kindBehind};
@@ -45,4 +46,11 @@ pub(crate) fn spi_on(asked: Named, frame: &[u8]) -> u16
         Named::Kind(kind) => two_at(frame, kind.header_length(frame)),
         Named::Nothing => two_at(frame, 0),
     }
+}
+
+// The SPI on a frame that came in, whether or not it is admitted.
+pub fn spi_received(said: Said, frame: &[u8]) -> u16
+    ensures { λ r. ⌜ r ≡ spiIn (kindSaid said) (now (frame .entry)) ⌝ }
+{
+    spi_on(kind_of(said.kind), frame)
 }

@@ -93,19 +93,24 @@ fn sees(desk: u8, owner: u8) -> bool
     (desk == KEY_OFFICE) | (desk == owner)
 }
 
-// Whether an entry has an SPI, for a desk.
+// Whether an entry has an SPI, for a desk. Of an entry with another SPI the body is not read.
 fn has_spi(image: &[u8], desk: u8, spi: u16, index: u8) -> bool
     ensures { λ r. ⌜ r ≡ hasSpi (now (image .entry)) desk spi index ⌝ }
 {
-    let owner = owner_of(image, version_of(image), body_at(image, index));
-    (spi_of(image, index) == spi) & sees(desk, owner)
+    if spi_of(image, index) == spi {
+        let owner = owner_of(image, version_of(image), body_at(image, index));
+        return sees(desk, owner);
+    }
+    false
 }
 
 fn entry_matches(image: &[u8], wanted: Wanted, index: u8) -> bool
     ensures { λ r. ⌜ r ≡ matches (now (image .entry)) wanted index ⌝ }
 {
-    has_spi(image, wanted.desk, wanted.spi, index)
-        & body_serves(image, version_of(image), body_at(image, index), wanted)
+    if has_spi(image, wanted.desk, wanted.spi, index) {
+        return body_serves(image, version_of(image), body_at(image, index), wanted);
+    }
+    false
 }
 
 // The entry with an SPI, whatever its direction, kind and state.

@@ -1,5 +1,4 @@
--- One bit changed: both answers are given, and the conditions are met by clear and by secured frames; the bit may be one that says how long
--- the header is. By computing.
+-- One bit changed: both answers are given, and the conditions are met by clear and by secured frames. By computing.
 -- Assumes nothing.
 use Prim.Native.Nat.{ℕ, _-_, _<_}
 use mathlib.Core.Path.{_≡_, refl}
@@ -15,14 +14,14 @@ use Rattle.check_field.specs.Register.{register, shift, shifts}
 use Rattle.check_field.proofs.Fields.{field-register}
 use Rattle.kinds.specs.Kinds.{Kind}
 use Rattle.frame.specs.Closing.{fieldOk}
-use Rattle.link.specs.Calls.{secured, checkedAs}
+use Rattle.link.specs.Calls.{secured}
 use Rattle.judging.specs.Said.{Said, kindSaid}
-use Rattle.promises.specs.Cases.{allTrue, imageOf, oneNumber, room, imageB, fielded}
+use Rattle.promises.specs.Cases.{allTrue, oneNumber, room, imageB, fielded}
 use Rattle.promises.specs.OneBit.{flipped, BitOf}
 use Rattle.promises.proofs.Computing.{everything}
 use Rattle.promises.proofs.Readings.{field-kept}
 use Rattle.witness_frames.proofs.Computed.{areOctets, octets-of}
-use Rattle.witness_frames.proofs.Frames.{fieldedFrame, fieldedTm, fieldedOcf, fieldedSecured, fieldedShort, fieldedLong, fieldedLongOcf, fieldedLongSecured}
+use Rattle.witness_frames.proofs.Frames.{fieldedFrame, fieldedOcf, fieldedSecured}
 
 pub bits-seen :
     allTrue
@@ -35,28 +34,8 @@ pub bits-seen :
 unfolding everything
 bits-seen = refl
 
--- the bit may say how long the header is: the flag of a secondary header, set or taken away, and a bit of its length or of its version. Where
--- the header that is then read fits, 12 is given, and else 3
-pub bits-of-secondary-headers-seen :
-    let sending : List ℕ → ℕ = λ frame. secured (imageOf 1 3 1 100 0) (oneNumber 63) (fielded 3) 9 frame room .answer in
-    let checking : List ℕ → ℕ = λ frame. checkedAs true (imageOf 1 3 2 100 0) (oneNumber 63) (fielded 3) frame room .answer in
-    allTrue
-    (eqb (sending (flipped 4 7 fieldedTm)) 3
-    ∷ eqb (sending (flipped 4 7 fieldedShort)) 12
-    ∷ eqb (sending (flipped 6 0 fieldedShort)) 3
-    ∷ eqb (sending (flipped 6 1 fieldedShort)) 3
-    ∷ eqb (sending (flipped 6 5 fieldedLong)) 12
-    ∷ eqb (sending (flipped 6 6 fieldedLong)) 3
-    ∷ eqb (checking (flipped 4 7 fieldedLongSecured)) 12
-    ∷ eqb (checking (flipped 6 5 fieldedLongSecured)) 12
-    ∷ eqb (checking (flipped 6 7 fieldedLongSecured)) 3
-    ∷ [])
-    ≡ true
-unfolding everything
-bits-of-secondary-headers-seen = refl
-
 -- The field is right if the register makes it, which computes more quickly than the division
-registered : List ℕ → Bool
+unfoldable pub registered : List ℕ → Bool
 registered frame = same (drop (length frame - 2) frame) (bytes 2 (register (length frame - 2) frame))
 
 or-so : (a b : Bool) → b ≡ true → (a || b) ≡ true
@@ -68,7 +47,7 @@ unfolding fieldOk rightField registered
 right-so k frame octets e = or-so (not (k .endsInField)) _ (rw (field-register (length frame - 2) frame octets) e)
 
 -- any bit of a frame whose octets are octets and whose field is right
-any-bit : (said : Said) (frame : List ℕ) → said .field ≡ true → areOctets frame ≡ true → registered frame ≡ true
+pub any-bit : (said : Said) (frame : List ℕ) → said .field ≡ true → areOctets frame ≡ true → registered frame ≡ true
     → (p b : ℕ) → p < length frame → b < 8 → BitOf said frame p b
 any-bit said frame present octets right p b place bit =
     record {
@@ -90,11 +69,3 @@ bits-of-ocf = any-bit (fielded 3) fieldedOcf refl refl refl
 pub bits-of-secured : (p b : ℕ) → p < 30 → b < 8 → BitOf (fielded 1) fieldedSecured p b
 unfolding everything registered register shifts shift
 bits-of-secured = any-bit (fielded 1) fieldedSecured refl refl refl
-
-pub bits-of-secondary-header : (p b : ℕ) → p < 77 → b < 8 → BitOf (fielded 3) fieldedLongOcf p b
-unfolding everything registered register shifts shift
-bits-of-secondary-header = any-bit (fielded 3) fieldedLongOcf refl refl refl
-
-pub bits-of-secured-secondary-header : (p b : ℕ) → p < 95 → b < 8 → BitOf (fielded 3) fieldedLongSecured p b
-unfolding everything registered register shifts shift
-bits-of-secured-secondary-header = any-bit (fielded 3) fieldedLongSecured refl refl refl

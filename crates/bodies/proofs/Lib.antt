@@ -1,3 +1,4 @@
 pub mod Layouts
+pub mod Lent
 pub mod SameFields
 pub mod ValidBodies

@@ -18,6 +18,7 @@ use octets::copy_at;
 use octets::four_at;
 use octets::octet_at;
 use octets::two_at;
+ghost use lib.ListN.{length};
 ghost use mathlib.Core.Path.{_≡_};
 ghost use Prim.Native.Nat.{_+_, _<_, _≤_};
 ghost use Rattle.octets.specs.Lists.{octet};
@@ -25,7 +26,7 @@ ghost use Rattle.octets.specs.Numbers.{numberAt};
 ghost use Rattle.kinds.specs.Kinds.{kindIs, named};
 ghost use Rattle.bodies.specs.Body.{bodyIn, serviceOf, kindIn, directionOf, stateOf, spacecraftOf, channelOf, holdsSet, mapOf, windowOf, maskOf, keyIdOf, codeOf, ownerOf};
 ghost use Rattle.bodies.specs.Body.{serviceOk, directionOk, stateOk, channelOk, maskOk, kindOk, windowFits, windowOk, markOk, ownerOk, bodyOk};
-ghost use Rattle.bodies.specs.Layout.{fieldsEnd};
+ghost use Rattle.bodies.specs.Layout.{fieldsEnd, layoutOf};
 
 // The states, in their order; an association serves in the last.
 pub const UNKEYED: u8 = 0;
@@ -128,10 +129,16 @@ pub fn key_id_of(image: &[u8], version: u8, at: u16) -> u16
     two_at(image, at as usize + layout_of(version).key as usize)
 }
 
+// Its four octets are read at once where all are there.
 pub fn code_of(image: &[u8], version: u8, at: u16) -> u32
     ensures { λ r. ⌜ r ≡ codeOf version (bodyIn (now (image .entry)) version at) ⌝ }
 {
-    four_at(image, at as usize + layout_of(version).mark as usize)
+    let from = at as usize + layout_of(version).mark as usize;
+    let end = from + CODE_LENGTH;
+    if end <= image.len() {
+        return four_at(&image[from..end], 0);
+    }
+    four_at(image, from)
 }
 
 // The desk to which it belongs; in a version that has no owners, the first.
@@ -245,4 +252,14 @@ pub fn body_ok(image: &[u8], version: u8, at: u16) -> bool
         & window_ok(image, version, at)
         & mark_ok(image, version, at)
         & owner_ok(image, version, at)
+}
+
+// The same of a body whose octets are all there: they are read by themselves, and none is asked whether it is inside.
+pub fn body_inside_ok(image: &[u8], version: u8, at: u16) -> bool
+    requires { ⌜ at + layoutOf version .body ≤ length (now image) ⌝ }
+    ensures { λ r. ⌜ r ≡ bodyOk version (bodyIn (now (image .entry)) version at) ⌝ }
+{
+    let from = at as usize;
+    let end = from + layout_of(version).body as usize;
+    body_ok(&image[from..end], version, 0)
 }

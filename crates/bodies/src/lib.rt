@@ -8,6 +8,7 @@ pub use body::KEYED;
 pub use body::LAST_DESK;
 pub use body::OPERATIONAL;
 pub use body::UNKEYED;
+pub use body::body_inside_ok;
 pub use body::body_ok;
 pub use body::channel_of;
 pub use body::code_of;

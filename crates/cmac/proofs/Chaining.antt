@@ -11,8 +11,9 @@ use Rattle.octets.specs.Same.{same}
 use Rattle.octets.specs.Xor.{xors}
 use Rattle.key_schedule.specs.KeyExpansion.{keyExpansion}
 use Rattle.cipher.specs.Cipher.{cipher}
-use Rattle.cmac.specs.Subkeys.{zeros, nextSubkey, ciphered, k1, k2}
-use Rattle.cmac.specs.Mac.{blockCount, block, chain, cmacUnder, cmac}
+use Rattle.subkeys.specs.Subkeys.{zeros, nextSubkey, ciphered, k1, k2}
+use Rattle.message_blocks.specs.Blocks.{blockCount, block}
+use Rattle.cmac.specs.Mac.{chain, cmacUnder, cmac}
 use Rattle.cmac.specs.Mac.Opened.{cmac-is}
 
 pub first-is : (w : List ℕ) {l first : List ℕ} → l ≡ cipher w (zeros 16) → first ≡ nextSubkey l → first ≡ k1 w

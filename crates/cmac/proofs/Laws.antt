@@ -11,7 +11,8 @@ use Rattle.octets.proofs.Rules.{length-tab}
 use Rattle.key_schedule.specs.KeyExpansion.{keyExpansion}
 use Rattle.key_schedule.proofs.Laws.{octets-keyExpansion}
 use Rattle.cipher.proofs.Laws.{length-cipher, octets-cipher}
-use Rattle.cmac.specs.Mac.{blockCount, chain, cmac}
+use Rattle.message_blocks.specs.Blocks.{blockCount}
+use Rattle.cmac.specs.Mac.{chain, cmac}
 use Rattle.cmac.specs.Mac.Opened.{cmac-is}
 
 length-chain : (w m : List ℕ) (i : ℕ) → length (chain w m i) ≡ 16

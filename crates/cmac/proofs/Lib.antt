@@ -1,4 +1,2 @@
 pub mod Chaining
-pub mod Cuts
 pub mod Laws
-pub mod Reduction

@@ -1,2 +1,1 @@
 pub mod Mac
-pub mod Subkeys

@@ -1,17 +1,13 @@
 // CMAC (NIST SP 800-38B) with AES-256 and a MAC of 16 octets. A message is given as two parts that lie apart, a head and a body, and is
 // never copied: each block is read from where it lies. A caller that uses a key more than once expands it once, and takes the functions under
 // an expanded key; there it also says which engine is to make the blocks, by the tables that it lends (crate `engines`).
-mod blocks;
-mod message;
-mod subkeys;
-
 use cipher::expand_key;
 use columns::octets_of;
 use columns::sum;
 use engines::encrypt_block;
 use engines::encrypt_words;
-use message::block_count;
-use message::message_words;
+use message_blocks::block_count;
+use message_blocks::message_words;
 use octets::same_block;
 use subkeys::next_subkey;
 ghost use mathlib.Core.Path.{_≡_};

@@ -17,7 +17,7 @@ use Rattle.judging.proofs.First.{passed}
 use Rattle.procedures.specs.Procedures.{Procedure, procedureIs}
 use Rattle.procedures.specs.declared.procedure.Procedure as code
 use Rattle.procedures.proofs.Replying.{reply-after}
-use Rattle.commands.specs.Commanding.{procedureTests}
+use Rattle.deciding.specs.Deciding.{procedureTests}
 
 pub record Accepts (p : Procedure) (image : List ℕ) (e last : ℕ) (value : List ℕ) (room : ℕ) : Type 0 where
   pub asked : p .asks (stateOf (bodyOf image e)) ≡ true

@@ -3,13 +3,11 @@
 -- 15, 16, 17, 18 and 6.
 -- Assumes nothing.
 use Prim.Native.Nat.{ℕ}
-use mathlib.Core.Bool.{cond, not}
-use mathlib.Core.List.{List, [], _∷_, _++_}
-use lib.Dec.{eqb, ltb}
+use mathlib.Core.Bool.{cond}
+use mathlib.Core.List.{List, [], _++_}
+use lib.Dec.{eqb}
 use lib.ListN.{length}
 use Rattle.marks.specs.declared.plans.Store.{Store}
-use Rattle.bodies.specs.Body.{stateOf}
-use Rattle.image.specs.Image.{versionOf, bodyOf}
 use Rattle.association.specs.Association.{indexOf}
 use Rattle.numbers.specs.Numbers.{numberOf}
 use Rattle.judging.specs.Answers.{Test, first}
@@ -18,19 +16,11 @@ use Rattle.link.specs.Calls.{Left, left, cut}
 use Rattle.command_form.specs.Form.{valueOf}
 use Rattle.procedures.specs.Procedures.{Procedure, procedureOf}
 use Rattle.addressing.specs.Addressing.{entryNamed, addressTests}
+use Rattle.deciding.specs.Deciding.{procedureTests}
 
 -- ---- decided
 
--- under an entry and its last number, with that much room in the output
-abbrev pub procedureTests : Procedure → List ℕ → ℕ → ℕ → List ℕ → ℕ → List Test
-procedureTests p image e last value room =
-    (15, not (p .asks (stateOf (bodyOf image e))))
-    ∷ (16, not (p .allows (versionOf image) (bodyOf image e) last value))
-    ∷ (17, not (p .knows image e value))
-    ∷ (18, not (p .ready image e value))
-    ∷ (6, ltb room (length (p .reply image e last value)))
-    ∷ []
-
+-- under an entry, with that much room in the output
 abbrev pub testsAt : Procedure → List ℕ → List ℕ → ℕ → List ℕ → ℕ → List Test
 testsAt p image last e value room = procedureTests p image e (numberOf last e) value room
 

@@ -3,27 +3,13 @@
 -- Assumes nothing.
 use Prim.Native.Nat.{ℕ}
 use mathlib.Core.List.{List}
-use lib.ListN.{length}
 use Rattle.judging.specs.Answers.{first}
 use Rattle.judging.specs.Replies.{Reply}
-use Rattle.judging.specs.Verdicts.{Judgement}
 use Rattle.procedures.specs.Procedures.{procedureIs}
 use Rattle.procedures.specs.declared.procedure.Procedure as code
-use Rattle.commands.specs.Commanding.{procedureTests, testsAt, replyAt}
+use Rattle.commands.specs.Commanding.{testsAt, replyAt}
 
 -- the reply under entry e, past the tests that come first
 abbrev pub replyUnder : code.Procedure → List ℕ → List ℕ → ℕ → List ℕ → ℕ → Reply
 replyUnder p image last e value room =
     replyAt (first (testsAt (procedureIs p) image last e value room)) (procedureIs p) image last e value
-
--- what is judged of it, from the entry's last number
-abbrev pub procedureJudged : code.Procedure → List ℕ → ℕ → ℕ → List ℕ → ℕ → Judgement
-procedureJudged p image e last value room =
-    let k = procedureIs p in
-    record {
-      answer = first (procedureTests k image e last value room);
-      entry = e;
-      number = k .number last value;
-      stores = k .stores image e (k .number last value) value;
-      size = length (k .reply image e last value);
-    }

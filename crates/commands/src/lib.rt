@@ -1,7 +1,5 @@
 // Document 02, requests 5 and 9: the command call, beside load, securing and checking. A command is decided, then carried out: its stores, the
 // managed number, then the reply. The call is what its definition of specs/Commanding says, for every input.
-mod deciding;
-
 use addressing::Address;
 use addressing::address_of;
 use command_form::FRONT;

@@ -23,7 +23,7 @@ use Rattle.promises.proofs.Valids.{rules-valid, agreement, agreement-tested}
 use Rattle.command_promises.specs.Runs.{Step, call, command, commandCut, after, ran}
 use Rattle.command_promises.proofs.Keeps.{Spoken}
 use Rattle.desks.specs.Desks.{By, isLoad, isCut, Own, OwnOrOffice, Other, Pair, same, apart, apartCut, here, there}
-use Rattle.desks.specs.Desks.{AllOther, Allowed, AllAllowed, SameKeyPart, KeyPartSame, Answered, AnsweredTo, Desks}
+use Rattle.desks.specs.Desks.{AllOther, Allowed, AllAllowed, SameKeyPart, Start, KeyPartSame, Answered, AnsweredTo, Desks}
 use Rattle.desks.proofs.Both.{Both, frame, later, back, twin-back}
 use Rattle.desks.proofs.Calls.{Together, together}
 use Rattle.desks.proofs.Commands.{Calling, command-acts, command-twin, command-answered}
@@ -34,7 +34,7 @@ use Rattle.desks.proofs.Shared.{Framed, Same, framed, same-framed, same
 
 -- ---- side by side
 
-abbrev Abreast : ℕ → State → State → Type 0
+abbrev pub Abreast : ℕ → State → State → Type 0
 Abreast d x y = Both d (x .image) (x .numbers) (y .image) (y .numbers)
 
 -- what the desk sees of the next states
@@ -123,7 +123,7 @@ module _ (d : ℕ) (x y : State) (b : Abreast d x y) where
       (send-twin d s l t r b said spi clear output)
       (λ z e below ev own. twin-back _ _ (send-twin d t r s l (back b) said spi clear output z e below ev own))
 
-  checks : (said : Said) (clear output : List ℕ)
+  pub checks : (said : Said) (clear output : List ℕ)
       → Together d s l t r (checkingReply (comparison s l said clear) s l said clear (length output))
       (checkingReply (comparison t r said clear) t r said clear (length output))
   checks said clear output =
@@ -174,7 +174,7 @@ module _ (d : ℕ) (x y : State) (b : Abreast d x y) where
   same-shown (command desk c output) spoken f g keys = whole-shown _ _ (commands desk c output spoken) output keys
   same-shown (commandCut desk c output j any) spoken f g keys = cut-shown _ _ (commands desk c output spoken) j any f g keys
 
-  same-both : (v : Step) → Spoken v → SameKeyPart (after x v) (after y v) → Abreast d (after x v) (after y v)
+  pub same-both : (v : Step) → Spoken v → SameKeyPart (after x v) (after y v) → Abreast d (after x v) (after y v)
   same-both v spoken keys =
       let m = next x (one b) v spoken in
       let n = next y (two b) v spoken in
@@ -182,7 +182,7 @@ module _ (d : ℕ) (x y : State) (b : Abreast d x y) where
       (n .agree ∙ ap (λ (a : Bool). anew v || a) (b .agree) ∙ sym (m .agree)) (same-shown v spoken (m .fine) (n .fine) keys)
 
   -- whole calls of the other desk, in each run its own
-  apart-both : (vs ws : List Step) → AllOther d vs → AllOther d ws → SameKeyPart (ran x vs) (ran y ws) → Abreast d (ran x vs) (ran y ws)
+  pub apart-both : (vs ws : List Step) → AllOther d vs → AllOther d ws → SameKeyPart (ran x vs) (ran y ws) → Abreast d (ran x vs) (ran y ws)
   apart-both vs ws all others keys =
       let m = others-pass d x vs (one b) all in
       let n = others-pass d y ws (two b) others in
@@ -199,7 +199,7 @@ module _ (d : ℕ) (x y : State) (b : Abreast d x y) where
       })
 
   -- and a cut one in each
-  cut-both : (v w : Step) → By (Other d) v → isCut v ≡ true → By (Other d) w → isCut w ≡ true → SameKeyPart (after x v) (after y w)
+  pub cut-both : (v w : Step) → By (Other d) v → isCut v ≡ true → By (Other d) w → isCut w ≡ true → SameKeyPart (after x v) (after y w)
       → Abreast d (after x v) (after y w)
   cut-both v w by-v cut-v by-w cut-w keys =
       let m = next x (one b) v (by-spoken (Other d) v by-v) in
@@ -244,7 +244,7 @@ answered d x y b some (commandCut desk c output j any) own = tt
 
 -- ---- over the whole of both runs
 
-spoken-of : (d : ℕ) (v : Step) → (isLoad v ≡ true) ⊎ By (OwnOrOffice d) v → Spoken v
+pub spoken-of : (d : ℕ) (v : Step) → (isLoad v ≡ true) ⊎ By (OwnOrOffice d) v → Spoken v
 unfolding isLoad Spoken
 spoken-of d (call v) allowed = tt
 spoken-of d (command desk c output) (inl is) = absurd (true≢false (sym is))
@@ -271,16 +271,15 @@ equal true b f g = f refl
 equal false true f g = sym (g refl)
 equal false false f g = refl
 
-pub desks : Desks
-desks d range x y pairs start allowed keys =
+pub abreast : (d : ℕ) (x y : State) → Start d x y → Abreast d x y
+abreast d x y start =
     let s = x .image in
     let l = x .numbers in
     let t = y .image in
     let r = y .numbers in
     let o = start .one in
     let p = start .other in
-    all-answered d (range .0) pairs x y
-    (record {
+    record {
       octets = o .octets;
       octetsThere = p .octets;
       passed = rules-valid s (o .octets) (o .valid);
@@ -294,5 +293,7 @@ desks d range x y pairs start allowed keys =
           (λ e. agreement-tested s l (o .octets) (start .agreed (agreement t r (p .octets) e)));
       same = record { size = start .alike .size; octets = start .alike .octets };
       numbers = start .alike .numbers;
-    })
-    allowed keys
+    }
+
+pub desks : Desks
+desks d range x y pairs start allowed keys = all-answered d (range .0) pairs x y (abreast d x y start) allowed keys

@@ -3,7 +3,7 @@
 use mathlib.Core.Path.{_≡_, refl, sym, ap, ap₂, _∙_}
 use Prim.Native.Nat.{ℕ, zero, suc, _+_, _-_, _*_, _/_, _%_, _^_, _≤_, _<_}
 use native.Mathlib.Omega.{arith}
-use native.Mathlib.Nat.{mod-lt, mul-one, zero-mul, zero-add, suc-add, add-zero, mul-assoc, mul-mod-left, pow-succ', div-add-mod'}
+use native.Mathlib.Nat.{mod-lt, mul-one, zero-mul, zero-add, suc-add, add-zero, add-comm, mul-assoc, mul-mod-left, pow-succ', div-add-mod'}
 use native.Mathlib.Numerals.{add-one}
 use lib.Bits.{xor-zero-l, xor-zero-r, xor-comm, xor-lt, xor-mod, xor-shifted, xor-block}
 use lib.Dec.{lit<}
@@ -32,22 +32,28 @@ nexts-split k z =
     ∙ nexts-xor k (z / 2 ^ k * 2 ^ k) (z % 2 ^ k)
     ∙ ap (λ (n : ℕ). n ⊕ nexts k (z % 2 ^ k)) (nexts-shifted k (z / 2 ^ k))
 
--- four places down, where the four lowest bits of the second block w are 0: what falls out of v enters w at its top
-whole : (w : ℕ) → w % 16 ≡ 0 → nexts 4 w ≡ w / 16
-unfolding nexts nextV
-whole w e = nexts-split 4 w ∙ ap (λ (n : ℕ). w / 16 ⊕ nexts 4 n) e ∙ xor-zero-r (w / 16)
+-- k places down, where the k lowest bits of the second block w are 0: what falls out of v enters w at its top, j places up
+nexts-zero : (k : ℕ) → nexts k 0 ≡ 0
+nexts-zero k = ap (nexts k) (sym (zero-mul (2 ^ k))) ∙ nexts-shifted k 0
 
-fallen : (n : ℕ) → nexts 4 n ≡ nexts 128 (n * 2 ^ 124)
-fallen n = ap (nexts 4) (sym (nexts-shifted 124 n)) ∙ nexts-add 4 124 (n * 2 ^ 124)
+whole : (k w : ℕ) → w % 2 ^ k ≡ 0 → nexts k w ≡ w / 2 ^ k
+whole k w e = nexts-split k w ∙ ap (λ (n : ℕ). w / 2 ^ k ⊕ n) (ap (nexts k) e ∙ nexts-zero k) ∙ xor-zero-r (w / 2 ^ k)
 
-moved : (v w : ℕ) → w % 16 ≡ 0 → nexts 4 (v ⊕ nexts 128 w) ≡ v / 16 ⊕ nexts 128 (w / 16 ⊕ v % 16 * 2 ^ 124)
-moved v w e =
-    let out : ℕ = v % 16 * 2 ^ 124 in
-    nexts-xor 4 v (nexts 128 w)
-    ∙ ap₂ _⊕_ (nexts-split 4 v ∙ ap (λ (n : ℕ). v / 16 ⊕ n) (fallen (v % 16)))
-    (nexts-add 4 128 w ∙ sym (nexts-add 128 4 w) ∙ ap (nexts 128) (whole w e))
-    ∙ xor-assoc (v / 16) (nexts 128 out) (nexts 128 (w / 16))
-    ∙ ap (λ (n : ℕ). v / 16 ⊕ n) (xor-comm (nexts 128 out) (nexts 128 (w / 16)) ∙ sym (nexts-xor 128 (w / 16) out))
+fallen : (k j n : ℕ) → k + j ≡ 128 → nexts k n ≡ nexts 128 (n * 2 ^ j)
+fallen k j n e = ap (nexts k) (sym (nexts-shifted j n)) ∙ nexts-add k j (n * 2 ^ j) ∙ ap (λ (i : ℕ). nexts i (n * 2 ^ j)) e
+
+nexts-swap : (j k v : ℕ) → nexts j (nexts k v) ≡ nexts k (nexts j v)
+nexts-swap j k v = nexts-add j k v ∙ ap (λ (i : ℕ). nexts i v) (add-comm j k) ∙ sym (nexts-add k j v)
+
+moved : (k j v w : ℕ) → k + j ≡ 128 → w % 2 ^ k ≡ 0 → nexts k (v ⊕ nexts 128 w) ≡ v / 2 ^ k ⊕ nexts 128 (w / 2 ^ k ⊕ v % 2 ^ k * 2 ^ j)
+moved k j v w s e =
+    let out : ℕ = v % 2 ^ k * 2 ^ j in
+    let down : ℕ = v / 2 ^ k in
+    let kept : ℕ = w / 2 ^ k in
+    nexts-xor k v (nexts 128 w)
+    ∙ ap₂ _⊕_ (nexts-split k v ∙ ap (λ (n : ℕ). down ⊕ n) (fallen k j (v % 2 ^ k) s)) (nexts-swap k 128 w ∙ ap (nexts 128) (whole k w e))
+    ∙ xor-assoc down (nexts 128 out) (nexts 128 kept)
+    ∙ ap (λ (n : ℕ). down ⊕ n) (xor-comm (nexts 128 out) (nexts 128 kept) ∙ sym (nexts-xor 128 kept out))
 
 -- 64 places down: the high half moves to the low one, and the low one falls out
 half-out : (p q : ℕ) → q < 2 ^ 64 → nexts 64 (p * 2 ^ 64 + q) ≡ p ⊕ nexts 64 q
@@ -73,7 +79,7 @@ module _ (k x y h n m e p q v w : ℕ) (en : n ≡ x / 2 ^ k % 16) (em : m ≡ y
       ∙ xor-four (e ⊕ v / 16) p (nexts 128 kept) (nexts 128 (q * 2 ^ 64))
       ∙ ap₂ _⊕_
       (xor-assoc e (v / 16) (nexts 128 kept)
-      ∙ ap (λ (a : ℕ). e ⊕ a) (sym (moved v w z) ∙ ap (nexts 4) inv ∙ nexts-xor 4 first (nexts 64 second))
+      ∙ ap (λ (a : ℕ). e ⊕ a) (sym (moved 4 124 v w refl z) ∙ ap (nexts 4) inv ∙ nexts-xor 4 first (nexts 64 second))
       ∙ sym (xor-assoc e (nexts 4 first) (nexts 4 (nexts 64 second))))
       (sym (entry-out p q hq))
       ∙ xor-assoc (e ⊕ nexts 4 first) (nexts 4 (nexts 64 second)) (nexts 64 low-entry)
@@ -118,6 +124,26 @@ zeros-fewer k v w q l e =
     ∙ ap₂ _⊕_ (sym (field w j 4) ∙ ap (λ (n : ℕ). w % 2 ^ n / 16) (sym f) ∙ ap (λ (n : ℕ). n / 16) e)
     (multiple (v % 16) 124 j (omega arith)))
     (multiple q 64 j (omega arith))
+
+-- the low 32 bits of each half, and above them, by themselves, the high ones: together all 64
+pub halves-joined : (x y h v w vs ws : ℕ) → w % 2 ^ 32 ≡ 0 → v ⊕ nexts 128 w ≡ productRounds 32 x 0 h ⊕ nexts 64 (productRounds 32 y 0 h)
+    → vs ⊕ nexts 128 ws ≡ productRounds 32 (x / 2 ^ 32) 0 h ⊕ nexts 64 (productRounds 32 (y / 2 ^ 32) 0 h)
+    → (vs ⊕ v / 2 ^ 32) ⊕ nexts 128 (ws ⊕ (w / 2 ^ 32 ⊕ v % 2 ^ 32 * 2 ^ 96)) ≡ productRounds 64 x 0 h ⊕ nexts 64 (productRounds 64 y 0 h)
+halves-joined x y h v w vs ws e lower upper =
+    let first : ℕ = productRounds 32 x 0 h in
+    let second : ℕ = productRounds 32 y 0 h in
+    let third : ℕ = productRounds 32 (x / 2 ^ 32) 0 h in
+    let fourth : ℕ = productRounds 32 (y / 2 ^ 32) 0 h in
+    let kept : ℕ = w / 2 ^ 32 ⊕ v % 2 ^ 32 * 2 ^ 96 in
+    ap (λ (n : ℕ). (vs ⊕ v / 2 ^ 32) ⊕ n) (nexts-xor 128 ws kept)
+    ∙ xor-four vs (v / 2 ^ 32) (nexts 128 ws) (nexts 128 kept)
+    ∙ ap₂ _⊕_ upper
+    (sym (moved 32 96 v w refl e)
+    ∙ ap (nexts 32) lower
+    ∙ nexts-xor 32 first (nexts 64 second)
+    ∙ ap (λ (n : ℕ). nexts 32 first ⊕ n) (nexts-swap 32 64 second))
+    ∙ xor-four third (nexts 64 fourth) (nexts 32 first) (nexts 64 (nexts 32 second))
+    ∙ ap₂ _⊕_ (sym (horner-by 32 32 x h)) (sym (nexts-xor 64 fourth (nexts 32 second)) ∙ ap (nexts 64) (sym (horner-by 32 32 y h)))
 
 -- both halves, all their bits done
 pub halves-all : (hi lo h v w : ℕ) → lo < 2 ^ 64 → v ⊕ nexts 128 w ≡ productRounds 64 hi 0 h ⊕ nexts 64 (productRounds 64 lo 0 h)
@@ -230,9 +256,32 @@ half-next hi lo hh hl =
     ∙ xor-block 64 0 (lo ⊕ lo / 2 ⊕ lo / 4 ⊕ lo / 128) hi (two ⊕ four ⊕ last) hh back-lt
     ∙ ap (λ (n : ℕ). n * 2 ^ 64 + (hi ⊕ (two ⊕ four ⊕ last))) (xor-zero-l (lo ⊕ lo / 2 ⊕ lo / 4 ⊕ lo / 128)))
 
--- four places down, as the code has it
+-- s places down, as the code has it: the bits of `top` enter at the top, u places up in the high half
+down-by : (s u top hi lower z : ℕ) → hi / 2 ^ s < 2 ^ u → lower < 2 ^ 64 → z / 2 ^ s ≡ hi / 2 ^ s * 2 ^ 64 + lower
+    → (hi / 2 ^ s + top * 2 ^ u) * 2 ^ 64 + lower ≡ z / 2 ^ s ⊕ top * 2 ^ (u + 64)
+down-by s u top hi lower z h l e =
+    let high : ℕ = hi / 2 ^ s in
+    let f : top * 2 ^ u + high ≡ high + top * 2 ^ u = add-comm (top * 2 ^ u) high in
+    sym
+    (ap₂ _⊕_ e
+    (ap (λ (n : ℕ). top * n) (pow-add 2 u 64) ∙ sym (mul-assoc top (2 ^ u) (2 ^ 64)) ∙ sym (add-zero (top * 2 ^ u * 2 ^ 64)))
+    ∙ xor-block 64 high (top * 2 ^ u) lower 0 l (lit< tt)
+    ∙ ap₂ (λ (a b : ℕ). a * 2 ^ 64 + b) (xor-comm high (top * 2 ^ u) ∙ xor-shifted top u high h ∙ f) (xor-zero-r lower))
+
+-- four places, and 32
 down : (hi lo : ℕ) → (hi * 2 ^ 64 + lo) / 16 ≡ hi / 16 * 2 ^ 64 + (lo / 16 + hi % 16 * 0x1000_0000_0000_0000)
 down hi lo = omega arith
+
+far-down : (hi lo : ℕ) → (hi * 2 ^ 64 + lo) / 2 ^ 32 ≡ hi / 2 ^ 32 * 2 ^ 64 + (lo / 2 ^ 32 + hi % 2 ^ 32 * 2 ^ 32)
+far-down hi lo = omega arith
+
+pub far-lower-lt : (hi lo : ℕ) → lo < 2 ^ 64 → lo / 2 ^ 32 + hi % 2 ^ 32 * 2 ^ 32 < 2 ^ 64
+far-lower-lt hi lo l = omega arith
+
+pub far-down-halves : (top hi lo : ℕ) → hi < 2 ^ 64 → lo < 2 ^ 64
+    → (hi / 2 ^ 32 + top * 2 ^ 32) * 2 ^ 64 + (lo / 2 ^ 32 + hi % 2 ^ 32 * 2 ^ 32) ≡ (hi * 2 ^ 64 + lo) / 2 ^ 32 ⊕ top * 2 ^ 96
+far-down-halves top hi lo hh hl =
+    down-by 32 32 top hi (lo / 2 ^ 32 + hi % 2 ^ 32 * 2 ^ 32) (hi * 2 ^ 64 + lo) (omega arith) (far-lower-lt hi lo hl) (far-down hi lo)
 
 pub lower-lt : (hi lo : ℕ) → lo < 2 ^ 64 → lo / 16 + hi % 16 * 0x1000_0000_0000_0000 < 2 ^ 64
 lower-lt hi lo l = omega arith
@@ -240,11 +289,4 @@ lower-lt hi lo l = omega arith
 pub down-halves : (top hi lo : ℕ) → hi < 2 ^ 64 → lo < 2 ^ 64
     → (hi / 16 + top * 0x1000_0000_0000_0000) * 2 ^ 64 + (lo / 16 + hi % 16 * 0x1000_0000_0000_0000) ≡ (hi * 2 ^ 64 + lo) / 16 ⊕ top * 2 ^ 124
 down-halves top hi lo hh hl =
-    let lower : ℕ = lo / 16 + hi % 16 * 0x1000_0000_0000_0000 in
-    let l : lower < 2 ^ 64 = lower-lt hi lo hl in
-    let s : hi / 16 < 2 ^ 60 = omega arith in
-    let f : top * 2 ^ 60 + hi / 16 ≡ hi / 16 + top * 0x1000_0000_0000_0000 = omega arith in
-    sym
-    (ap₂ _⊕_ (down hi lo) (sym (mul-assoc top (2 ^ 60) (2 ^ 64)) ∙ sym (add-zero (top * 2 ^ 60 * 2 ^ 64)))
-    ∙ xor-block 64 (hi / 16) (top * 2 ^ 60) lower 0 l (lit< tt)
-    ∙ ap₂ (λ (a b : ℕ). a * 2 ^ 64 + b) (xor-comm (hi / 16) (top * 2 ^ 60) ∙ xor-shifted top 60 (hi / 16) s ∙ f) (xor-zero-r lower))
+    down-by 4 60 top hi (lo / 16 + hi % 16 * 0x1000_0000_0000_0000) (hi * 2 ^ 64 + lo) (omega arith) (lower-lt hi lo hl) (down hi lo)

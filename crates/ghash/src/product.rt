@@ -139,21 +139,57 @@ fn four_more(z: Unreduced, x: Block, k: u64, t: &[u64; 32]) -> Unreduced
     }
 }
 
-// The product of x with the block that t is the table of. Both halves of x go at once, and nothing is reduced before the end. A turn does an
-// octet of each.
+// A block moved down 32 places, with 32 other bits at its top.
+fn moved_far_down(top: u64, z: Block) -> Block
+    requires { ⌜ top < 2 ^ 32 ⌝ }
+    ensures { λ r. ⌜ value r ≡ value z / 2 ^ 32 ⊕ top * 2 ^ 96 ⌝ }
+{
+    Block {
+        hi: z.hi / 0x1_0000_0000 + top * 0x1_0000_0000,
+        lo: z.lo / 0x1_0000_0000 + z.hi % 0x1_0000_0000 * 0x1_0000_0000,
+    }
+}
+
+// The product of 32 bits moved down 32 places, and added to that of the 32 bits above them.
+fn joined(upper: Unreduced, lower: Unreduced) -> Unreduced
+    ensures { λ r. ⌜ (value (r .high) ≡ value (upper .high) ⊕ value (lower .high) / 2 ^ 32) × (value (r .low) ≡ value (upper .low) ⊕ (value (lower .low) / 2 ^ 32 ⊕ value (lower .high) % 2 ^ 32 * 2 ^ 96)) ⌝ }
+{
+    let high = lower.high;
+    Unreduced {
+        high: xor(upper.high, moved_far_down(0, high)),
+        low: xor(
+            upper.low,
+            moved_far_down(high.lo % 0x1_0000_0000, lower.low),
+        ),
+    }
+}
+
+// The product of x with the block that t is the table of. Both halves of x go at once, and nothing is reduced before the end. The low 32 bits
+// of the halves and the high ones go each by themselves, so that a processor need not wait for one with the other.
 pub(crate) fn multiply(x: Block, t: &[u64; 32]) -> Block
     ensures { λ r. ⌜ ((h : ℕ) → IsTableOf h (now (t .entry)) → value r ≡ value x • h) ⌝ }
 {
-    let mut z = Unreduced {
+    let above = Block {
+        hi: x.hi / 0x1_0000_0000,
+        lo: x.lo / 0x1_0000_0000,
+    };
+    let mut lower = Unreduced {
+        high: Block { hi: 0, lo: 0 },
+        low: Block { hi: 0, lo: 0 },
+    };
+    let mut upper = Unreduced {
         high: Block { hi: 0, lo: 0 },
         low: Block { hi: 0, lo: 0 },
     };
     let mut k: u64 = 0;
-    while k < 64 {
-        let next = four_more(four_more(z, x, k, t), x, k + 4, t);
-        z = next;
-        k += 8;
+    while k < 32 {
+        let low_more = four_more(lower, x, k, t);
+        lower = low_more;
+        let high_more = four_more(upper, above, k, t);
+        upper = high_more;
+        k += 4;
     }
+    let z = joined(upper, lower);
     let high = z.high;
     let low = z.low;
     xor(high, half_next(half_next(low)))

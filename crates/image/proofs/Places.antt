@@ -16,9 +16,10 @@ use Rattle.octets.proofs.Parts.{length-part, octet-part, part-part}
 use Rattle.marks.specs.Gray.{codeLength, ungray}
 use Rattle.octets.proofs.Outside.{Apart}
 use Rattle.bodies.specs.Body.{bodyIn, codeOf}
-use Rattle.bodies.specs.Layout.{keyLength}
+use Rattle.bodies.specs.Layout.{keyLength, layoutOf}
+use Rattle.bodies.specs.declared.layout.Layout.{Layout}
 use Rattle.bodies.proofs.Layouts.{lawful, ends-before}
-use Rattle.image.specs.Image.{versionOf, countOf, layout, entryPlace, bodyAt, bodyOf, markAt, markIn, partAt, keyCount, keyIdIn, keyOf, imageSize}
+use Rattle.image.specs.Image.{versionOf, countOf, layout, entryPlace, bodyPlace, bodyAt, bodyOf, markAt, markIn, partAt, keyCount, keyIdIn, keyOf, imageSize}
 use Rattle.keys.specs.Keys.{keyUnder}
 use Rattle.image.proofs.ValidImages.{LaidOut}
 
@@ -90,6 +91,16 @@ body-inside image laid i h = omega (arith, laid .size, before-part image i h)
 pub mark-inside : (image : List ℕ) → LaidOut image → (i : ℕ) → i < countOf image → markAt image i + codeLength ≤ length image
 mark-inside image laid i h =
     omega (arith, body-inside image laid i h, mark-behind-body image i, lawful (versionOf image) .inside)
+
+-- and so do the entries of the contents
+pub entry-inside : (image : List ℕ) → LaidOut image → (i : ℕ) → i < countOf image → entryPlace i + 4 ≤ length image
+entry-inside image laid i h = omega (arith, behind-contents image i, body-inside image laid i h)
+
+-- a place that was reckoned from version and count, as code does it once for all entries
+pub body-placed : (image : List ℕ) (version count i : ℕ) (l : Layout) → l ≡ layoutOf version → version ≡ versionOf image → count ≡ countOf image
+    → bodyPlace l count i ≡ bodyAt image i
+unfolding bodyAt
+body-placed image version count i l laid e k = rw (laid, e, k)
 
 -- n octets in a body, and any in another, stand apart
 pub bodies-apart : (image : List ℕ) (i j at n p k : ℕ) → j ≢ i → at + n ≤ layout image .body → p + k ≤ layout image .body

@@ -1,7 +1,7 @@
 // Document 01, 'The image', and document 02, request 9: where its parts stand, and what is allowed.
 use bodies::Layout;
 use bodies::OPERATIONAL;
-use bodies::body_ok;
+use bodies::body_inside_ok;
 use bodies::code_of;
 use bodies::key_id_of;
 use bodies::layout_of;
@@ -18,10 +18,15 @@ use octets::copy_at;
 use octets::octet_at;
 use octets::two_at;
 ghost use mathlib.Core.Path.{_≡_};
+ghost use mathlib.Core.Bool.{true, not, _&&_, _||_};
 ghost use Prim.Native.Nat.{_+_, _≤_};
+ghost use lib.Dec.{eqb};
+ghost use lib.ListN.{length};
 ghost use Rattle.octets.specs.Lists.{part, all};
+ghost use Rattle.bodies.specs.Body.{bodyIn, stateOf, operational, keyIdOf, bodyOk};
 ghost use Rattle.bodies.specs.Layout.{keyLength, Lawful};
-ghost use Rattle.image.specs.Image.{versionOf, countOf, entryPlace, spiOf, positionOf, bodyPlace, farthest, bodyAt};
+ghost use Rattle.keys.specs.Keys.{active, keyInState};
+ghost use Rattle.image.specs.Image.{versionOf, countOf, entryPlace, spiOf, positionOf, bodyPlace, farthest, bodyAt, bodyOf};
 ghost use Rattle.image.specs.Image.{layout, markAt, markIn, partAt, keyCount, keyWith, keyIn, keyIdIn, keyOf, imageSize, laidOut, spiBefore, entryOk};
 ghost use Rattle.image.specs.Image.{lastOk, keyedOk, keysOk, validImage};
 
@@ -77,11 +82,18 @@ pub fn body_at(image: &[u8], index: u8) -> u16
     body_place(layout_of(version_of(image)), count_of(image), index)
 }
 
-// Where the mark of an entry stands, and the mark.
+// Where the mark of an entry stands, by layout and count and of an image; and the mark.
+pub fn mark_place(layout: Layout, count: u8, index: u8) -> u16
+    requires { ⌜ Lawful layout ⌝ }
+    ensures { λ r. ⌜ r ≡ bodyPlace layout count index + layout .mark ⌝ }
+{
+    body_place(layout, count, index) + layout.mark as u16
+}
+
 pub fn mark_at(image: &[u8], index: u8) -> u16
     ensures { λ r. ⌜ r ≡ markAt (now (image .entry)) index ⌝ }
 {
-    body_at(image, index) + layout_of(version_of(image)).mark as u16
+    mark_place(layout_of(version_of(image)), count_of(image), index)
 }
 
 pub fn mark_in(image: &[u8], index: u8) -> u32
@@ -176,24 +188,51 @@ pub fn laid_out(image: &[u8]) -> bool
     version_ok(version_of(image)) & (count_of(image) <= 32) & (image.len() == image_size(image))
 }
 
-// The SPI of the entry before, and 0 before the first.
-fn spi_before(image: &[u8], index: u8) -> u16
-    ensures { λ r. ⌜ r ≡ spiBefore (now (image .entry)) index ⌝ }
+// Of an entry whose octets are all there: its SPI, and its rule. The SPI before it and the place of its body are given.
+fn spi_inside(image: &[u8], index: u8) -> u16
+    requires { ⌜ entryPlace index + 4 ≤ length (now image) ⌝ }
+    ensures { λ r. ⌜ r ≡ spiOf (now (image .entry)) index ⌝ }
 {
-    if index == 0 {
-        return 0;
-    }
-    spi_of(image, index - 1)
+    let from = entry_place(index);
+    let end = from + 2;
+    two_at(&image[from..end], 0)
 }
 
-fn entry_ok(image: &[u8], index: u8) -> bool
+fn position_inside(image: &[u8], index: u8) -> u16
+    requires { ⌜ entryPlace index + 4 ≤ length (now image) ⌝ }
+    ensures { λ r. ⌜ r ≡ positionOf (now (image .entry)) index ⌝ }
+{
+    let from = entry_place(index) + 2;
+    let end = from + 2;
+    two_at(&image[from..end], 0)
+}
+
+fn entry_ok(image: &[u8], index: u8, before: u16, at: u16) -> bool
+    requires { ⌜ (entryPlace index + 4 ≤ length (now image)) × (before ≡ spiBefore (now image) index) × (at ≡ bodyAt (now image) index) ⌝ }
     ensures { λ r. ⌜ r ≡ entryOk (now (image .entry)) index ⌝ }
 {
-    let spi = spi_of(image, index);
-    (1 <= spi)
-        & (spi <= 65534)
-        & (spi_before(image, index) < spi)
-        & (position_of(image, index) == body_at(image, index))
+    let spi = spi_inside(image, index);
+    (1 <= spi) & (spi <= 65534) & (before < spi) & (position_inside(image, index) == at)
+}
+
+// Every entry with its body, of an image that is laid out. All are tested, also behind one that breaks a rule.
+fn entries_ok(image: &[u8]) -> bool
+    requires { ⌜ laidOut (now image) ≡ true ⌝ }
+    ensures { λ r. ⌜ r ≡ all (countOf (now (image .entry))) (λ i. entryOk (now (image .entry)) i && bodyOk (versionOf (now (image .entry))) (bodyOf (now (image .entry)) i)) ⌝ }
+{
+    let version = version_of(image);
+    let layout = layout_of(version);
+    let count = count_of(image);
+    let mut ok = true;
+    let mut before: u16 = 0;
+    let mut i: u8 = 0;
+    while i < count {
+        let at = body_place(layout, count, i);
+        ok = ok & (entry_ok(image, i, before, at) & body_inside_ok(image, version, at));
+        before = spi_inside(image, i);
+        i += 1;
+    }
+    ok
 }
 
 // The entry of the contents that is outside the count names the key part.
@@ -204,22 +243,26 @@ fn last_ok(image: &[u8]) -> bool
     (spi_of(image, count) == PART_SPI) & (position_of(image, count) == part_at(image))
 }
 
-// An operational body names a key that is active; another may name any ID.
-fn keyed_ok(image: &[u8], index: u8) -> bool
-    ensures { λ r. ⌜ r ≡ keyedOk (now (image .entry)) index ⌝ }
+// An operational body names a key that is active; another may name any ID. The body and the key part are given by their places.
+fn keyed_ok(image: &[u8], version: u8, at: u16, part: u16, keys: u8) -> bool
+    ensures { λ r. ⌜ r ≡ (not (eqb (stateOf (bodyIn (now (image .entry)) version at)) operational) || keyInState (now (image .entry)) part keys active (keyIdOf version (bodyIn (now (image .entry)) version at))) ⌝ }
 {
-    let state = state_of(image, version_of(image), body_at(image, index));
-    !(state == OPERATIONAL) | key_in(image, ACTIVE, key_id_in(image, index))
+    !(state_of(image, version, at) == OPERATIONAL)
+        | key_in_state(image, part, keys, ACTIVE, key_id_of(image, version, at))
 }
 
 fn bodies_keyed(image: &[u8]) -> bool
     ensures { λ r. ⌜ r ≡ all (countOf (now (image .entry))) (keyedOk (now (image .entry))) ⌝ }
 {
+    let version = version_of(image);
+    let layout = layout_of(version);
     let count = count_of(image);
+    let part = part_at(image);
+    let keys = key_count(image);
     let mut ok = true;
     let mut i: u8 = 0;
     while i < count {
-        ok = ok & keyed_ok(image, i);
+        ok = ok & keyed_ok(image, version, body_place(layout, count, i), part, keys);
         i += 1;
     }
     ok
@@ -237,17 +280,12 @@ fn keys_ok(image: &[u8]) -> bool
     true
 }
 
-// Every rule of the image, answer 1: its layout, each entry with its body, and the keys. All are tested, also behind one that breaks a rule.
+// Every rule of the image, answer 1: its layout, each entry with its body, and the keys. Where the layout is not right, no entry is read.
 pub fn image_ok(image: &[u8]) -> bool
     ensures { λ r. ⌜ r ≡ validImage (now (image .entry)) ⌝ }
 {
-    let version = version_of(image);
-    let count = count_of(image);
-    let mut ok = laid_out(image);
-    let mut i: u8 = 0;
-    while i < count {
-        ok = ok & (entry_ok(image, i) & body_ok(image, version, body_at(image, i)));
-        i += 1;
+    if laid_out(image) {
+        return entries_ok(image) & keys_ok(image);
     }
-    ok & keys_ok(image)
+    false
 }

@@ -16,6 +16,7 @@ pub use image::key_with;
 pub use image::laid_out;
 pub use image::mark_at;
 pub use image::mark_in;
+pub use image::mark_place;
 pub use image::part_at;
 pub use image::position_of;
 pub use image::spi_of;

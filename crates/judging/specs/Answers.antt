@@ -6,13 +6,12 @@ use mathlib.Core.Bool.{Bool, cond}
 use mathlib.Core.List.{List, [], _∷_}
 use Rattle.judging.specs.declared.answers.Answer.{Answer}
 use Rattle.judging.specs.declared.answers.Answer.the-variants as answer
+use Rattle.judging.specs.declared.answers.Reported as code
 
 -- ---- the table: each answer's number, and what it reports of a result
 
-pub record Reported : Type 0 where
-  pub number : ℕ
-  pub length : ℕ
-  pub stores : ℕ
+abbrev pub Reported : Type 0
+Reported = code.Reported
 
 -- a refusal reports length 0 and 0 stores
 abbrev pub refusal : ℕ → Reported

@@ -6,6 +6,8 @@ mod said;
 mod verdict;
 
 pub use answers::Answer;
+pub use answers::Reported;
+pub use answers::report_of;
 pub use said::Said;
 pub use said::no_desk;
 pub use verdict::Admission;

@@ -2,23 +2,18 @@
 -- and length can be taken out of the number again.
 -- Assumes nothing.
 use Prim.Native.Nat.{ℕ}
-use mathlib.Core.Path.{_≡_, refl}
-use mathlib.Core.Bool.{Bool, true, false, cond}
+use mathlib.Core.Bool.{cond}
 use mathlib.Core.List.{List, []}
-use borrow.Author.Tests.{eqb-true}
 use lib.Dec.{eqb}
 use lib.ListN.{length}
-use Rattle.octets.specs.Lists.{Octets}
 use Rattle.image.specs.Image.{validImage}
 use Rattle.lent.proofs.Taken.{answer-taken, stores-taken, length-taken}
-use Rattle.link.specs.Calls.{Left, refused, loaded, secured, checked}
+use Rattle.link.specs.Calls.{Left, loaded, secured}
 use Rattle.judging.specs.Said.{Said}
-use Rattle.link.proofs.Small.{Small, small-refused, small-either, loaded-small, secured-small, checked-small}
-use Rattle.commands.specs.Commanding.{commanded}
-use Rattle.commands.proofs.Small.{commanded-small}
-use Rattle.lent_calls.specs.Interface.{counted, loadCall, secureCall, checkCall, commandCall, Unpacked}
+use Rattle.link.proofs.Small.{Small, small-refused, small-either, loaded-small, secured-small}
+use Rattle.lent_calls.specs.Interface.{counted, loadCall, secureCall, Unpacked}
 
-unpacked : (x : Left) → Small x → Unpacked x
+pub unpacked : (x : Left) → Small x → Unpacked x
 unpacked x s =
     record {
       answer = answer-taken (x .answer) (x .length) (x .stores) (s .short) (s .few);
@@ -26,7 +21,7 @@ unpacked x s =
       length = length-taken (x .answer) (x .length) (x .stores) (s .short) (s .few);
     }
 
-unpacked-counted : (image numbers output : List ℕ) (call : Left) → Small call → Unpacked (counted image numbers output call)
+pub unpacked-counted : (image numbers output : List ℕ) (call : Left) → Small call → Unpacked (counted image numbers output call)
 unpacked-counted image numbers output call s =
     unpacked (counted image numbers output call)
     (small-either (eqb (length numbers) 32) s (small-refused (cond (validImage image) 2 1) image numbers output))
@@ -40,21 +35,3 @@ pub secure-unpacked : (image numbers : List ℕ) (said : Said) (spi : ℕ) (fram
 unfolding secureCall
 secure-unpacked image numbers said spi frame output =
     unpacked-counted image numbers output (secured image numbers said spi frame output) (secured-small image numbers said spi frame output)
-
-pub check-unpacked : (image numbers : List ℕ) (said : Said) (frame output : List ℕ) → Unpacked (checkCall image numbers said frame output)
-unfolding checkCall
-check-unpacked image numbers said frame output =
-    unpacked-counted image numbers output (checked image numbers said frame output) (checked-small image numbers said frame output)
-
--- of octets, as all that C lends are
-pub command-unpacked : (image numbers : List ℕ) (desk : ℕ) (command output : List ℕ) → Octets image → Octets command
-    → Unpacked (commandCall image numbers desk command output)
-unfolding commandCall
-command-unpacked image numbers desk command output octets spoken = by-count (eqb (length numbers) 32) refl
-  where
-    by-count : (t : Bool) → eqb (length numbers) 32 ≡ t
-        → Unpacked (cond t (commanded image numbers desk command output) (refused (cond (validImage image) 2 1) image numbers output))
-    by-count true e =
-        unpacked (commanded image numbers desk command output)
-        (commanded-small image numbers desk command output octets spoken (eqb-true (length numbers) 32 e))
-    by-count false e = unpacked _ (small-refused (cond (validImage image) 2 1) image numbers output)

@@ -1,5 +1,5 @@
 -- The module as C calls it: the one number that a call returns, and what it leaves of the image, the numbers and the output that it was lent.
--- Each call is the one of link's specs/Calls, or of commands' specs/Commanding, on the lent numbers, if they are 32.
+-- Each call is the one of link's specs/Calls on the lent numbers, if they are 32. A check and a command have notes too: crate noted_calls.
 -- Assumes nothing.
 use Prim.Native.Nat.{ℕ, _/_, _%_, _^_}
 use mathlib.Core.Path.{_≡_}
@@ -8,8 +8,8 @@ use mathlib.Core.List.{List, []}
 use lib.Dec.{eqb}
 use lib.ListN.{length, take}
 use Rattle.image.specs.Image.{validImage}
-use Rattle.link.specs.Calls.{Left, refused, cut, loaded, secured, checked}
-use Rattle.commands.specs.Commanding.{madeBy, commandReply, commanded}
+use Rattle.link.specs.Calls.{Left, refused, cut, loaded, secured}
+use Rattle.commands.specs.Commanding.{madeBy, commandReply}
 use Rattle.judging.specs.Said.{Said}
 use Rattle.lent.specs.Word.{word}
 
@@ -40,12 +40,6 @@ loadCall image numbers = counted image numbers [] (loaded image numbers)
 
 unfoldable pub secureCall : List ℕ → List ℕ → Said → ℕ → List ℕ → List ℕ → Left
 secureCall image numbers said spi frame output = counted image numbers output (secured image numbers said spi frame output)
-
-unfoldable pub checkCall : List ℕ → List ℕ → Said → List ℕ → List ℕ → Left
-checkCall image numbers said frame output = counted image numbers output (checked image numbers said frame output)
-
-unfoldable pub commandCall : List ℕ → List ℕ → ℕ → List ℕ → List ℕ → Left
-commandCall image numbers desk command output = counted image numbers output (commanded image numbers desk command output)
 
 -- a command cut after j stores: the number of those that were made, and the image
 pub record CutShort (image numbers : List ℕ) (desk : ℕ) (command : List ℕ) (room j : ℕ) (r : ℕ) (i : List ℕ) : Type 0 where

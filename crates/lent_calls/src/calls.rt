@@ -7,7 +7,7 @@ use lent::pack;
 use lent::refuse_count;
 ghost use mathlib.Core.List.{[]};
 ghost use Rattle.engines.specs.Lent.{Lent};
-ghost use Rattle.lent_calls.specs.Interface.{Returned, told, loadCall, secureCall, checkCall, commandCall, CutShort};
+ghost use Rattle.lent_calls.specs.Interface.{Returned, told, loadCall, secureCall, CutShort};
 
 pub fn load_lent(image: &[u8], numbers: &mut [u32]) -> u64
     ensures { λ r. ⌜ Returned (loadCall (now (image .entry)) (now (numbers .entry))) r (now (image .entry)) (now (numbers .exit)) [] ⌝ }
@@ -51,57 +51,6 @@ pub fn secure_lent(
         frame,
         output,
     );
-    let answer = outcome.answer;
-    hand_back(outcome.numbers, numbers);
-    pack(answer)
-}
-
-pub fn check_lent(
-    tables: &[u32],
-    image: &mut [u8],
-    numbers: &mut [u32],
-    desk: u8,
-    kind: u8,
-    field: u8,
-    frame: &[u8],
-    output: &mut [u8],
-) -> u64
-    requires { ⌜ Lent (now tables) ⌝ }
-    ensures { λ r. ⌜ Returned (checkCall (now (image .entry)) (now (numbers .entry)) (told desk kind field) (now (frame .entry)) (now (output .entry))) r (now (image .exit)) (now (numbers .exit)) (now (output .exit)) ⌝ }
-{
-    if numbers.len() != 32 {
-        return refuse_count(image);
-    }
-    let outcome = checking::check_by(
-        tables,
-        image,
-        numbers_in(numbers),
-        Said {
-            desk,
-            kind,
-            field: field != 0,
-        },
-        frame,
-        output,
-    );
-    let answer = outcome.answer;
-    hand_back(outcome.numbers, numbers);
-    pack(answer)
-}
-
-pub fn command_lent(
-    image: &mut [u8],
-    numbers: &mut [u32],
-    desk: u8,
-    command: &[u8],
-    output: &mut [u8],
-) -> u64
-    ensures { λ r. ⌜ Returned (commandCall (now (image .entry)) (now (numbers .entry)) desk (now (command .entry)) (now (output .entry))) r (now (image .exit)) (now (numbers .exit)) (now (output .exit)) ⌝ }
-{
-    if numbers.len() != 32 {
-        return refuse_count(image);
-    }
-    let outcome = commands::command(image, numbers_in(numbers), desk, command, output);
     let answer = outcome.answer;
     hand_back(outcome.numbers, numbers);
     pack(answer)

@@ -1,10 +1,12 @@
--- Under the entry that the search finds, the reply is that of the entry's association; and a refusal by the tests that come first is the
--- whole call's.
+-- Under the entry that the search finds, the reply is that of the entry's association, and so is the number that a check tells; and a refusal
+-- by the tests that come first is the whole call's, and no number is told.
 -- Assumes nothing.
 use Prim.Native.Nat.{ℕ, _+_}
 use mathlib.Core.Path.{_≡_, refl, sym, ap, ap₂, _∙_}
 use mathlib.Core.Bool.{Bool, true, false}
 use mathlib.Core.List.{List, []}
+use native.Mathlib.Omega.{arith}
+use borrow.Author.Tests.{eq-eqb, ne-eqb}
 use Rattle.kinds.specs.Kinds.{Kind, framed}
 use Rattle.kinds.specs.declared.framing.Framing.{Framing}
 use Rattle.image.specs.Image.{bodyOf, keyOf}
@@ -23,7 +25,7 @@ use Rattle.judging.specs.declared.answers.Answer.{Answer}
 use Rattle.judging.proofs.Answered.{heldBy, fronted, past-front}
 use Rattle.judging.proofs.First.{stops}
 use Rattle.judging.proofs.Searches.{Finds, finds-at}
-use Rattle.link.specs.Calls.{securingEntry, securingReply, checkingEntry, comparison, checkingReply}
+use Rattle.link.specs.Calls.{securingEntry, securingReply, checkingEntry, matchedNumber, comparison, checkingReply}
 use Rattle.link.specs.Steps.{sendingReply, receivingReply}
 
 -- ---- what a call reads of an entry is what its association holds
@@ -121,3 +123,18 @@ module _ (image last : List ℕ) (said : Said) (frame : List ℕ) (room : ℕ) w
       ap₂ (λ (a : Association) (x : Kind). received a e x (judged a x)) (sym see) (r .kinds)
       ∙ ap (λ (i : Found). received (theOne (checks .found)) (indexOf i) (kindSaid said) (judged (theOne (checks .found)) (kindSaid said))) (sym (r .entry))
       ∙ ap (received (theOne (checks .found)) (checkingEntry image said frame) (kindSaid said)) (sym (past-front checks said frame true _ front))
+
+-- ---- the number that a check tells, of the entry that matched and of no other
+
+module _ (image last : List ℕ) (said : Said) (frame after : List ℕ) where
+  abbrev front : ℕ
+  front = first (frontTests (seen image last (checkingWants said frame)) said frame true)
+
+  pub told-none : (a : Answer) → Refuses a front → 0 ≡ matchedNumber image last said frame after
+  unfolding matchedNumber
+  told-none a r = rw (ne-eqb front 0 (λ z. omega (arith, r .some)))
+
+  pub told-under : (framing : Framing) (e : ℕ) → Admits image last (checkingWants said frame) said true frame framing e
+      → numberOf after e ≡ matchedNumber image last said frame after
+  unfolding matchedNumber
+  told-under framing e r = rw (eq-eqb front 0 (r .answer), r .entry)

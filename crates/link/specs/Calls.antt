@@ -2,18 +2,18 @@
 -- the output as they were and the call's arguments; and the image where power fails after j of its stores.
 -- Assumes nothing.
 use Prim.Native.Nat.{ℕ}
-use mathlib.Core.Bool.{Bool, cond}
+use mathlib.Core.Bool.{Bool, true, cond}
 use mathlib.Core.List.{List, [], _++_}
 use lib.Dec.{eqb}
 use lib.ListN.{length, set, take, drop}
 use Rattle.association.specs.Association.{heldIn, theOne, indexOf}
 use Rattle.image.specs.Image.{validImage}
-use Rattle.numbers.specs.Numbers.{loadedNumbers}
+use Rattle.numbers.specs.Numbers.{loadedNumbers, numberOf}
 use Rattle.association.specs.Search.{entryFor}
 use Rattle.marks.specs.Stores.{stored}
 use Rattle.protection.specs.Protection.{macRight}
-use Rattle.judging.specs.Answers.{reported}
-use Rattle.judging.specs.Replies.{seen, Reply, raising, securing, checking}
+use Rattle.judging.specs.Answers.{reported, first}
+use Rattle.judging.specs.Replies.{seen, Reply, raising, frontTests, securing, checking}
 use Rattle.judging.specs.Said.{Said, kindSaid}
 use Rattle.judging.specs.Wants.{securingWants, checkingWants}
 use Rattle.link.specs.declared.outcome.Outcome.{Outcome}
@@ -97,6 +97,14 @@ securedCut image last said spi frame output j =
 
 abbrev pub checkingEntry : List ℕ → Said → List ℕ → ℕ
 checkingEntry image said frame = indexOf (entryFor image (checkingWants said frame))
+
+-- document 02, request 11: the number of the entry that a frame matches, in the numbers that its check leaves, and 0 without a match: where the
+-- search finds none, or a test that comes before it refuses the frame
+unfoldable pub matchedNumber : List ℕ → List ℕ → Said → List ℕ → List ℕ → ℕ
+matchedNumber image last said frame after =
+    cond (eqb (first (frontTests (seen image last (checkingWants said frame)) said frame true)) 0)
+    (numberOf after (checkingEntry image said frame))
+    0
 
 -- how the comparison of the MAC falls out under the association that matches
 unfoldable pub comparison : List ℕ → List ℕ → Said → List ℕ → Bool

@@ -1,15 +1,29 @@
 // The link security module for C: include/xistalvo.h declares these functions. A slice passes as a pointer and a count of its elements. Each
-// function is one of crate `lent_calls`, or the cut of crate `numbers`, over lists that the caller lends: nothing is kept between calls.
-use lent_calls::check_lent;
+// function is one of crate `lent_calls` or `noted_calls`, or the cut of crate `numbers`, over lists that the caller lends: nothing is kept between calls.
+// The notes, reports and log, are a struct that the caller lends by `&mut` (document 01, 'Matching forms to places'): the function copies
+// them out, calls the one that does the work by value, and stores what that returns, the last thing that it does.
 use lent_calls::command_cut_lent;
-use lent_calls::command_lent;
 use lent_calls::load_lent;
 use lent_calls::secure_lent;
+use noted_calls::check_noted;
+use noted_calls::command_noted;
+use noted_calls::ground_check_noted;
+use notes::Notes;
 use word_tables::word_tables;
 ghost use mathlib.Core.List.{[]};
 ghost use mathlib.Core.Path.{_≡_};
 ghost use Rattle.numbers.specs.Stores.{storesMade, afterStores};
-ghost use Rattle.lent_calls.specs.Interface.{Returned, told, loadCall, secureCall, checkCall, commandCall, CutShort};
+ghost use Rattle.lent_calls.specs.Interface.{Returned, told, loadCall, secureCall, CutShort};
+ghost use Rattle.noted_calls.specs.NotedCalls.{Checks, Commands};
+ghost use Rattle.notes.specs.Noting.{freshNotes};
+
+// Notes with no event and no alarm, over those that are lent.
+#[no_mangle]
+pub extern "C" fn xistalvo_fresh_notes(notes: &mut Notes)
+    ensures { λ _. ⌜ now (notes .exit) ≡ freshNotes ⌝ }
+{
+    *notes = Notes::fresh();
+}
 
 // A restart.
 #[no_mangle]
@@ -68,6 +82,8 @@ pub extern "C" fn xistalvo_ground_secure(
 // The clear data of a secured frame, to the front of the output.
 #[no_mangle]
 pub extern "C" fn xistalvo_check(
+    notes: &mut Notes,
+    events: &mut [u8],
     image: &mut [u8],
     numbers: &mut [u32],
     desk: u8,
@@ -76,14 +92,28 @@ pub extern "C" fn xistalvo_check(
     frame: &[u8],
     output: &mut [u8],
 ) -> u64
-    ensures { λ r. ⌜ Returned (checkCall (now (image .entry)) (now (numbers .entry)) (told desk kind field) (now (frame .entry)) (now (output .entry))) r (now (image .exit)) (now (numbers .exit)) (now (output .exit)) ⌝ }
+    ensures { λ r. ⌜ Checks (now (notes .entry)) (now (events .entry)) (now (image .entry)) (now (numbers .entry)) desk kind field (now (frame .entry)) (now (output .entry)) r (now (notes .exit)) (now (events .exit)) (now (image .exit)) (now (numbers .exit)) (now (output .exit)) ⌝ }
 {
-    check_lent(&[], image, numbers, desk, kind, field, frame, output)
+    let checked = check_noted(
+        *notes,
+        events,
+        image,
+        numbers,
+        desk,
+        kind,
+        field,
+        frame,
+        output,
+    );
+    *notes = checked.notes;
+    checked.word
 }
 
 // The same at a ground station.
 #[no_mangle]
 pub extern "C" fn xistalvo_ground_check(
+    notes: &mut Notes,
+    events: &mut [u8],
     image: &mut [u8],
     numbers: &mut [u32],
     desk: u8,
@@ -92,24 +122,39 @@ pub extern "C" fn xistalvo_ground_check(
     frame: &[u8],
     output: &mut [u8],
 ) -> u64
-    ensures { λ r. ⌜ Returned (checkCall (now (image .entry)) (now (numbers .entry)) (told desk kind field) (now (frame .entry)) (now (output .entry))) r (now (image .exit)) (now (numbers .exit)) (now (output .exit)) ⌝ }
+    ensures { λ r. ⌜ Checks (now (notes .entry)) (now (events .entry)) (now (image .entry)) (now (numbers .entry)) desk kind field (now (frame .entry)) (now (output .entry)) r (now (notes .exit)) (now (events .exit)) (now (image .exit)) (now (numbers .exit)) (now (output .exit)) ⌝ }
 {
-    let tables = word_tables();
-    check_lent(&tables, image, numbers, desk, kind, field, frame, output)
+    let found = ground_check_noted(
+        *notes,
+        events,
+        image,
+        numbers,
+        desk,
+        kind,
+        field,
+        frame,
+        output,
+    );
+    *notes = found.notes;
+    found.word
 }
 
 // A management command, and its reply to the front of the output.
 #[no_mangle]
 pub extern "C" fn xistalvo_command(
+    notes: &mut Notes,
+    events: &mut [u8],
     image: &mut [u8],
     numbers: &mut [u32],
     desk: u8,
     command: &[u8],
     output: &mut [u8],
 ) -> u64
-    ensures { λ r. ⌜ Returned (commandCall (now (image .entry)) (now (numbers .entry)) desk (now (command .entry)) (now (output .entry))) r (now (image .exit)) (now (numbers .exit)) (now (output .exit)) ⌝ }
+    ensures { λ r. ⌜ Commands (now (notes .entry)) (now (events .entry)) (now (image .entry)) (now (numbers .entry)) desk (now (command .entry)) (now (output .entry)) r (now (notes .exit)) (now (events .exit)) (now (image .exit)) (now (numbers .exit)) (now (output .exit)) ⌝ }
 {
-    command_lent(image, numbers, desk, command, output)
+    let done = command_noted(*notes, events, image, numbers, desk, command, output);
+    *notes = done.notes;
+    done.word
 }
 
 // The cut of a command: the first `stores` of its octet stores, where its reply has that much room; how many were made. Numbers that are not

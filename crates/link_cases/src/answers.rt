@@ -1,33 +1,10 @@
 // What a call answers, as document 01's 'What comes back' numbers it.
+use judging::report_of;
 use lines::front;
 use lines::print;
 use lines::print_number;
 use lines::print_octets;
 use link::Answer;
-
-fn number_of(answer: Answer) -> u64 {
-    match answer {
-        Answer::Done(_, _) => 0,
-        Answer::BadImage => 1,
-        Answer::BadMarks => 2,
-        Answer::BadFrame => 3,
-        Answer::NoEntry => 4,
-        Answer::TooShort => 5,
-        Answer::NoRoom => 6,
-        Answer::WrongMac => 7,
-        Answer::OutsideWindow => 8,
-        Answer::NumbersSpent => 10,
-        Answer::TooLong => 11,
-        Answer::WrongCheckField => 12,
-        Answer::BadCommand => 13,
-        Answer::UnknownSpi => 14,
-        Answer::WrongState => 15,
-        Answer::BadValue => 16,
-        Answer::UnknownKey => 17,
-        Answer::WrongKeyState => 18,
-        Answer::WrongDesk => 19,
-    }
-}
 
 // What an octet of the output is before a call.
 pub(crate) const FILL: u8 = 165;
@@ -52,7 +29,7 @@ fn print_done(length: usize, stores: u64, result: &[u8]) {
 
 // The answer, the result at the front of the output, and what else of the output was written: that should be nothing.
 pub(crate) fn print_answer(answer: Answer, output: &[u8]) {
-    print_number(b"answer ", number_of(answer));
+    print_number(b"answer ", report_of(answer).number as u64);
     match answer {
         Answer::Done(length, stores) => {
             print_done(length, stores as u64, front(output, length));

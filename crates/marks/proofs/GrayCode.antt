@@ -6,7 +6,7 @@ use mathlib.Core.Logic.{_≢_}
 use mathlib.Core.Bool.{Bool, true, false}
 use Prim.Native.Nat.{ℕ, zero, suc, _+_, _-_, _*_, _/_, _%_, _^_, _≤_, _<_}
 use native.Mathlib.Decide.{decLt}
-use native.Mathlib.Nat.{div-eq-of-lt, mul-mod-left}
+use native.Mathlib.Nat.{zero-add, suc-add, mul-comm, pow-suc, div-one, div-div-eq-div-mul, div-eq-of-lt, mul-mod-left}
 use native.Mathlib.Omega.{arith}
 use borrow.Author.Tests.{lt-ltb, le-ltb, ltb-true, ltb-false, eq-eqb, ne-eqb, eqb-true, eqb-false}
 use lib.Bits.{xor-step, xor-self, xor-comm, xor-lt, xor-shr, xor-mod, xor-shifted, xor-zero-r}
@@ -39,7 +39,38 @@ gray-decoded (suc d) c h =
     in
     ap (λ (x : ℕ). (c ⊕ half) ⊕ x) e ∙ xor-undo c half
 
--- both for a code of four octets
+-- ---- a code is read by doubling
+
+-- the mark of digits in two parts
+decoded-add : (a b c : ℕ) → decoded (a + b) c ≡ decoded a c ⊕ decoded b (c / 2 ^ a)
+unfolding decoded
+decoded-add zero b c = rw (zero-add b, div-one c)
+decoded-add (suc a) b c =
+    let quotient : c / 2 / 2 ^ a ≡ c / 2 ^ suc a =
+    div-div-eq-div-mul c 2 (2 ^ a) ∙ ap (λ (p : ℕ). c / p) (mul-comm 2 (2 ^ a) ∙ sym (pow-suc 2 a))
+    in
+    rw (suc-add a b, decoded-add a b (c / 2), quotient) (sym (xor-assoc c (decoded a (c / 2)) (decoded b (c / 2 ^ suc a))))
+
+-- the mark of a code without its k last digits is the mark without them
+decoded-shift : (k d c : ℕ) → decoded d (c / 2 ^ k) ≡ decoded d c / 2 ^ k
+unfolding decoded
+decoded-shift k zero c = sym (div-eq-of-lt (pow-pos k))
+decoded-shift k (suc d) c =
+    let halves : c / 2 ^ k / 2 ≡ c / 2 / 2 ^ k =
+    div-div-eq-div-mul c (2 ^ k) 2 ∙ ap (λ (p : ℕ). c / p) (mul-comm (2 ^ k) 2) ∙ sym (div-div-eq-div-mul c 2 (2 ^ k))
+    in
+    rw (halves, decoded-shift k d (c / 2)) (sym (xor-shr c (decoded d (c / 2)) k))
+
+-- so the mark of k digits gives that of twice as many
+pub decoded-double : (k c m : ℕ) → m ≡ decoded k c → m ⊕ m / 2 ^ k ≡ decoded (k + k) c
+decoded-double k c m e = rw (e, decoded-add k k c, decoded-shift k k c)
+
+pub decoded-one : (c : ℕ) → c ≡ decoded 1 c
+unfolding decoded
+decoded-one c = sym (xor-zero-r c)
+
+-- ---- both for a code of four octets
+
 pub ungray-gray : (m : ℕ) → m < 2 ^ 32 → ungray (gray m) ≡ m
 ungray-gray m h = decoded-gray 32 m h
 

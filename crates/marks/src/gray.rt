@@ -8,15 +8,13 @@ pub fn gray_of(m: u32) -> u32
     m ^ (m / 2)
 }
 
-// The mark of a code: each turn takes one binary digit more of the code, from the highest on.
+// The mark of a code: each step takes in twice as many binary digits of the code as the one before.
 pub fn mark_of(code: u32) -> u32
     ensures { λ r. ⌜ r ≡ ungray code ⌝ }
 {
-    let mut m: u32 = 0;
-    let mut d: u32 = 0;
-    while d < 32 {
-        m = (code >> (31 - d)) ^ m;
-        d += 1;
-    }
-    m
+    let by_two = code ^ (code >> 1);
+    let by_four = by_two ^ (by_two >> 2);
+    let by_eight = by_four ^ (by_four >> 4);
+    let by_sixteen = by_eight ^ (by_eight >> 8);
+    by_sixteen ^ (by_sixteen >> 16)
 }

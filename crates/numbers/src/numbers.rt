@@ -1,17 +1,20 @@
 // Document 01, 'Managed numbers': the last number of each entry, held by value.
-use bodies::code_of;
-use image::body_at;
+use bodies::layout_of;
 use image::count_of;
 use image::image_ok;
 use image::mark_in;
+use image::mark_place;
 use image::version_of;
 use marks::gray_of;
+use octets::four_at;
 ghost use mathlib.Core.Path.{_≡_};
 ghost use mathlib.Core.Bool.{true};
-ghost use Prim.Native.Nat.{_<_, _^_, _/_};
+ghost use Prim.Native.Nat.{_+_, _≤_, _<_, _^_, _/_};
 ghost use lib.Dec.{eqb};
-ghost use lib.ListN.{set};
-ghost use Rattle.image.specs.Image.{markIn, validImage};
+ghost use lib.ListN.{length, set};
+ghost use Rattle.octets.specs.Numbers.{numberAt};
+ghost use Rattle.marks.specs.Gray.{codeLength, ungray};
+ghost use Rattle.image.specs.Image.{validImage};
 ghost use Rattle.numbers.specs.Numbers.{numberOf, loadedNumber, loadedNumbers, agrees};
 ghost use Rattle.numbers.specs.Numbers.{loadStanding, loadNumbers, standingOf};
 
@@ -94,21 +97,27 @@ pub fn load(image: &[u8], numbers: Numbers) -> Loaded
     }
 }
 
-// The mark that the number asks for is coded, and not the image's mark read: coding is one step, and reading thirty-two.
-fn agrees_at(image: &[u8], index: u8, last: u32) -> bool
-    ensures { λ r. ⌜ r ≡ eqb (last / 64) (markIn (now (image .entry)) index) ⌝ }
+// The mark that the number asks for is coded, and not the image's mark read: coding is one step, and reading five.
+fn agrees_at(image: &[u8], at: u16, last: u32) -> bool
+    requires { ⌜ at + codeLength ≤ length (now image) ⌝ }
+    ensures { λ r. ⌜ r ≡ eqb (last / 64) (ungray (numberAt at codeLength (now (image .entry)))) ⌝ }
 {
-    code_of(image, version_of(image), body_at(image, index)) == gray_of(last / 64)
+    let from = at as usize;
+    let end = from + 4;
+    four_at(&image[from..end], 0) == gray_of(last / 64)
 }
 
 fn marks_agree(image: &[u8], numbers: Numbers) -> bool
+    requires { ⌜ validImage (now image) ≡ true ⌝ }
     ensures { λ r. ⌜ r ≡ agrees (now (image .entry)) (numbers .last) ⌝ }
 {
+    let layout = layout_of(version_of(image));
     let count = count_of(image);
     let mut ok = true;
     let mut i: u8 = 0;
     while i < count {
-        ok = ok & agrees_at(image, i, numbers.of(i));
+        let last = numbers.last[i as usize];
+        ok = ok & agrees_at(image, mark_place(layout, count, i), last);
         i += 1;
     }
     ok

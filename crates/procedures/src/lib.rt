@@ -1,15 +1,10 @@
-// Document 02, requests 5 and 9: the procedures that a command may call, and what each asks, of its value, of the association and of the key
-// that it names. Nothing is changed. Crate `plans` has what it stores, and crate `replies` what it replies.
-mod named;
+// Document 02, requests 5 and 9: the procedures that a command may call, each with its tag, the length of its value and the states in which
+// it may come. Nothing is changed. Crate `conditions` has what it asks of its value, `key_conditions` what of the key that it names, `plans`
+// what it stores, and `replies` what it replies.
 mod procedure;
 mod tags;
-mod values;
 
-pub use named::key_known;
-pub use named::key_ready;
 pub use procedure::Called;
 pub use procedure::Procedure;
 pub use tags::called_by;
 pub use tags::key_command;
-pub use values::allowed;
-pub use values::new_number;

@@ -155,7 +155,7 @@ module _ (image numbers : List ℕ) (octets : Octets image) (direction : ℕ) (s
     f : Finds image numbers w e
     f = finds image numbers w some
 
-    serves : Serves image direction said spi frame e
+    pub serves : Serves image direction said spi frame e
     serves = serving image direction said spi frame e (f .below) (f .passes)
 
     -- it is the only one
@@ -164,7 +164,7 @@ module _ (image numbers : List ℕ) (octets : Octets image) (direction : ℕ) (s
         subst P
         (spi-once image (valid image (rules-valid image octets rules)) e d (serves .entry) (s .entry) (serves .spis ∙ sym (s .spis))) p
 
-    held-service : h .service ≡ serviceAt image e
+    pub held-service : h .service ≡ serviceAt image e
     unfolding associationOf held
     held-service = ap (λ (x : Association). heldIn x .service) (f .association) ∙ service-at image e
 
@@ -184,10 +184,10 @@ module _ (image numbers : List ℕ) (octets : Octets image) (direction : ℕ) (s
     unfolding associationOf
     last = ap (λ (x : Association). x .number) (f .association)
 
-    security : securityLength h ≡ securitySize (serviceAt image e)
+    pub security : securityLength h ≡ securitySize (serviceAt image e)
     security = security-size h said frame ∙ ap securitySize held-service
 
-    text : textIn h (kindSaid said) frame ≡ textOn (serviceAt image e) said frame
+    pub text : textIn h (kindSaid said) frame ≡ textOn (serviceAt image e) said frame
     text = text-on h said frame ∙ ap (λ (s : ℕ). textOn s said frame) held-service
 
     abbrev n : ℕ
@@ -207,7 +207,7 @@ module _ (image numbers : List ℕ) (octets : Octets image) (direction : ℕ) (s
         ap (λ (x : Association). numberIn (heldIn x) (kindSaid said) frame) (f .association)
         ∙ held-right image numbers e (rules-valid image octets rules) (f .below) said frame (rw (serves .spis) opens) most
 
-    mac : macRight h (kindSaid said) frame
+    pub mac : macRight h (kindSaid said) frame
         ≡ same (rightMac (serviceAt image e) said (maskAt image e) (keyOctetsAt image e) frame) (macOn said frame)
     mac = mac-right h said frame (ap length held-mask ∙ length-part _ 6 image) ∙ rw (held-service, held-mask, held-key)
 

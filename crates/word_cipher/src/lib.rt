@@ -1,19 +1,17 @@
 // AES-256 (FIPS 197) on words of 32 bits: the same block as crate `cipher` gives, by tables of 4,096 octets, which a call takes once (crate
 // `word_tables`) and lends for any number of blocks. A state is its four columns, each a word with row 0 highest.
-mod rounds;
-
 use columns::octets_of;
 use columns::words_of;
 use key_schedule::expand_key;
-use rounds::add_key;
-use rounds::mixed;
-use rounds::rows_shifted;
+use word_rounds::add_key;
+use word_rounds::mixed;
+use word_rounds::rows_shifted;
 use word_tables::word_tables;
 ghost use mathlib.Core.Path.{_≡_};
 ghost use Rattle.word_tables.specs.Tables.{IsTables};
 ghost use Rattle.cipher.specs.Cipher.{cipher, aes256};
 ghost use Rattle.columns.specs.Columns.{stateFrom};
-ghost use Rattle.word_cipher.specs.Apart.{AreTables};
+ghost use Rattle.word_rounds.specs.Apart.{AreTables};
 
 // The block under an expanded key (5.1), with each table by itself: a lookup then has no place of a table to add, which is an instruction on
 // processors other than x86-64. `last` is the last place of a table. The last round has no MixColumns.

@@ -1,15 +1,16 @@
 //! The ground secures a telecommand frame and the spacecraft checks it; a replay is refused; both restart and go on.
 
-use xistalvo::{check, command, load, secure, Desk, Kind, Numbers, Refusal};
+use xistalvo::{check, command, load, secure, Desk, Kind, Notes, Numbers, Refusal};
 
 const SPI: u16 = 9;
 const SEND: u8 = 1;
 const RECEIVE: u8 = 2;
 
-/// One end of the link. The image has to outlive a loss of power; the numbers need not.
+/// One end of the link. The image has to outlive a loss of power; the numbers and the notes need not.
 struct End {
     image: Vec<u8>,
     numbers: Numbers,
+    notes: Notes,
 }
 
 /// An image with one association: service 2 (authenticated encryption) for TC frames of spacecraft 27, virtual channel 5.
@@ -27,10 +28,10 @@ fn build_image(direction: u8) -> Vec<u8> {
     image
 }
 
-fn start(name: &str, image: Vec<u8>) -> Result<End, Refusal> {
+fn start(name: &str, image: Vec<u8>, notes: Notes) -> Result<End, Refusal> {
     let numbers = load(&image)?;
     println!("load on the {name}: 0, done; the last number is {}", numbers.last(0).unwrap_or(0));
-    Ok(End { image, numbers })
+    Ok(End { image, numbers, notes })
 }
 
 fn send(ground: &mut End, data: &[u8]) -> Result<Vec<u8>, Refusal> {
@@ -46,7 +47,7 @@ fn send(ground: &mut End, data: &[u8]) -> Result<Vec<u8>, Refusal> {
 
 fn receive(space: &mut End, what: &str, frame: &[u8]) {
     let mut output = [0; 2048];
-    match check(&mut space.image, &mut space.numbers, Desk::One, Kind::Tc, false, frame, &mut output) {
+    match check(&mut space.notes, &mut space.image, &mut space.numbers, Desk::One, Kind::Tc, false, frame, &mut output) {
         Ok(done) => {
             let data = String::from_utf8_lossy(&output[..done.length]);
             println!("{what}: 0, done; stores {}, data '{data}'", done.stores);
@@ -58,27 +59,35 @@ fn receive(space: &mut End, what: &str, frame: &[u8]) {
 /// A management command, here one that changes nothing. Over a link, its octets are what a check released.
 fn read_number(space: &mut End) -> Result<(), Refusal> {
     let mut output = [0; 17];
-    let done = command(&mut space.image, &mut space.numbers, Desk::One, &[0x10, 0, 2, 0, SPI as u8], &mut output)?;
+    let done = command(&mut space.notes, &mut space.image, &mut space.numbers, Desk::One, &[0x10, 0, 2, 0, SPI as u8], &mut output)?;
     let hex: String = output[..done.length].iter().map(|octet| format!(" {octet:02X}")).collect();
     println!("read number: 0, done; reply{hex}");
     Ok(())
 }
 
+/// What the spacecraft would send down in an operational control field.
+fn tell_report(space: &End) {
+    let hex: String = space.notes.report(Desk::One).iter().map(|octet| format!(" {octet:02X}")).collect();
+    println!("report of desk 1:{hex}; events kept {}", space.notes.events().count());
+}
+
 fn round_trip() -> Result<(), Refusal> {
-    let mut ground = start("ground", build_image(SEND))?;
-    let mut space = start("spacecraft", build_image(RECEIVE))?;
+    let mut ground = start("ground", build_image(SEND), Notes::fresh())?;
+    let mut space = start("spacecraft", build_image(RECEIVE), Notes::fresh())?;
 
     let frame = send(&mut ground, b"HEAT 1200")?;
     receive(&mut space, "check", &frame);
     receive(&mut space, "the same frame again", &frame);
 
-    let mut ground = start("ground", ground.image)?; // a restart: the numbers were lost, the image was not
+    let mut ground = start("ground", ground.image, ground.notes)?; // a restart: the numbers were lost, the image was not
     let frame = send(&mut ground, b"HEAT 1250")?;
     receive(&mut space, "check", &frame);
 
-    let mut space = start("spacecraft", space.image)?; // the spacecraft restarts too, and still knows the frame
+    let mut space = start("spacecraft", space.image, space.notes)?; // the spacecraft restarts too, and still knows the frame
     receive(&mut space, "the same frame again", &frame);
-    read_number(&mut space)
+    read_number(&mut space)?;
+    tell_report(&space);
+    Ok(())
 }
 
 fn main() {

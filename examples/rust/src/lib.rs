@@ -12,6 +12,57 @@ impl Numbers {
     }
 }
 
+/// What checks and commands are noted in: a frame security report for each desk, and a log of 256 events.
+#[derive(Clone, Debug, PartialEq, Eq)]
+pub struct Notes {
+    lent: LentNotes,
+    events: [u8; 768],
+}
+
+/// As `xistalvo_notes` of `include/xistalvo.h`.
+#[repr(C)]
+#[derive(Clone, Debug, PartialEq, Eq)]
+struct LentNotes {
+    reports: [u8; 12],
+    kept: u32,
+    dropped: u32,
+}
+
+/// One check or command: the desk that it was made for, the command's first octet or 0, and the number of the answer.
+#[derive(Clone, Copy, Debug, PartialEq, Eq)]
+pub struct Event {
+    pub desk: u8,
+    pub tag: u8,
+    pub answer: u8,
+}
+
+impl Notes {
+    /// No alarm, no flag and no event.
+    pub fn fresh() -> Notes {
+        let mut notes = Notes { lent: LentNotes { reports: [0; 12], kept: 0, dropped: 0 }, events: [0; 768] };
+        // Safety: the struct is borrowed alone, and laid out as the interface has it.
+        unsafe { interface::xistalvo_fresh_notes(&mut notes.lent) };
+        notes
+    }
+
+    /// The report of a desk, as it rides in an operational control field.
+    pub fn report(&self, desk: Desk) -> [u8; 4] {
+        let first = 4 * desk as usize;
+        [0, 1, 2, 3].map(|octet| self.lent.reports[first + octet])
+    }
+
+    /// The events that are kept, the oldest first.
+    pub fn events(&self) -> impl Iterator<Item = Event> + '_ {
+        let kept = (self.lent.kept as usize).min(256);
+        self.events.chunks_exact(3).take(kept).map(|event| Event { desk: event[0], tag: event[1], answer: event[2] })
+    }
+
+    /// How many events found the log full.
+    pub fn dropped(&self) -> u32 {
+        self.lent.dropped
+    }
+}
+
 /// The desks: the key office's, which sees every association, and those of two laboratories, which see their own.
 #[derive(Clone, Copy, Debug, PartialEq, Eq)]
 pub enum Desk {
@@ -29,7 +80,7 @@ pub enum Kind {
     Aos = 4,
 }
 
-/// Why a call was refused. It then changed nothing.
+/// Why a call was refused. It then changed nothing but the notes.
 #[derive(Clone, Copy, Debug, PartialEq, Eq)]
 pub enum Refusal {
     BadImage = 1,
@@ -91,7 +142,10 @@ pub struct Done {
 }
 
 mod interface {
+    use super::LentNotes;
+
     extern "C" {
+        pub fn xistalvo_fresh_notes(notes: *mut LentNotes);
         pub fn xistalvo_load(image: *const u8, image_length: usize, numbers: *mut u32, numbers_length: usize) -> u64;
         pub fn xistalvo_secure(
             image: *mut u8,
@@ -108,6 +162,9 @@ mod interface {
             output_length: usize,
         ) -> u64;
         pub fn xistalvo_check(
+            notes: *mut LentNotes,
+            events: *mut u8,
+            events_length: usize,
             image: *mut u8,
             image_length: usize,
             numbers: *mut u32,
@@ -121,6 +178,9 @@ mod interface {
             output_length: usize,
         ) -> u64;
         pub fn xistalvo_command(
+            notes: *mut LentNotes,
+            events: *mut u8,
+            events_length: usize,
             image: *mut u8,
             image_length: usize,
             numbers: *mut u32,
@@ -212,8 +272,9 @@ pub fn secure(
     })
 }
 
-/// Checks a secured frame for a desk; the clear data fills the start of the output.
+/// Checks a secured frame for a desk, and notes what came of it; the clear data fills the start of the output.
 pub fn check(
+    notes: &mut Notes,
     image: &mut [u8],
     numbers: &mut Numbers,
     desk: Desk,
@@ -225,6 +286,9 @@ pub fn check(
     // Safety: as for `secure`.
     unpack(unsafe {
         interface::xistalvo_check(
+            &mut notes.lent,
+            notes.events.as_mut_ptr(),
+            notes.events.len(),
             image.as_mut_ptr(),
             image.len(),
             numbers.0.as_mut_ptr(),
@@ -241,10 +305,20 @@ pub fn check(
 }
 
 /// Carries out a management command for a desk: tag, length of the value in 2 octets, value. A reply fills the start of the output.
-pub fn command(image: &mut [u8], numbers: &mut Numbers, desk: Desk, command: &[u8], output: &mut [u8]) -> Result<Done, Refusal> {
+pub fn command(
+    notes: &mut Notes,
+    image: &mut [u8],
+    numbers: &mut Numbers,
+    desk: Desk,
+    command: &[u8],
+    output: &mut [u8],
+) -> Result<Done, Refusal> {
     // Safety: as for `secure`.
     unpack(unsafe {
         interface::xistalvo_command(
+            &mut notes.lent,
+            notes.events.as_mut_ptr(),
+            notes.events.len(),
             image.as_mut_ptr(),
             image.len(),
             numbers.0.as_mut_ptr(),

@@ -7,7 +7,7 @@ use native.Mathlib.Omega.{arith}
 use lib.ListN.{length-append}
 use Rattle.octets.specs.Lists.{tab}
 use Rattle.columns.specs.Columns.{stateFrom}
-use Rattle.cmac.specs.Subkeys.{k1, k2}
+use Rattle.subkeys.specs.Subkeys.{k1, k2}
 use Rattle.cmac.specs.Mac.{chain}
 use Rattle.cmac.proofs.Chaining.{first-is, second-is, chain-more, chain-all}
 use borrow.Author.Needs.{needs}

@@ -13,7 +13,8 @@ use Rattle.judging.specs.Verdicts.{judgement, Judged}
 use Rattle.judging.specs.declared.verdict.Verdict.{Verdict}
 use Rattle.link.proofs.Carried.{carried-refusal, carried-grant}
 use Rattle.procedures.specs.Procedures.{procedureIs}
-use Rattle.commands.specs.Steps.{replyUnder, procedureJudged}
+use Rattle.deciding.specs.Steps.{procedureJudged}
+use Rattle.commands.specs.Steps.{replyUnder}
 use Rattle.commands.proofs.Accepting.{accepts-all, fronted-fits, reply-written}
 use borrow.Author.Needs.{needs}
 use Rattle.commands.proofs.command_under.Statement.{statement}

@@ -5,7 +5,8 @@ use Prim.Native.Nat.{ℕ}
 use Rattle.judging.specs.Replies.{Reply}
 use Rattle.judging.specs.Verdicts.{judgement, Judged}
 use Rattle.judging.specs.declared.verdict.Verdict.{Verdict}
-use Rattle.commands.specs.Steps.{replyUnder, procedureJudged}
+use Rattle.deciding.specs.Steps.{procedureJudged}
+use Rattle.commands.specs.Steps.{replyUnder}
 use Rattle.commands.proofs.Cutting.{cut-refusal, cut-grant}
 use borrow.Author.Needs.{needs}
 use Rattle.commands.proofs.cut_under.Statement.{statement}

@@ -3,7 +3,7 @@
 use mathlib.Core.Path.{_≡_, refl}
 use native.Mathlib.Omega.{arith}
 use lib.ListN.{length}
-use Rattle.word_cipher.proofs.Mixing.{apart}
+use Rattle.word_rounds.proofs.Mixing.{apart}
 use borrow.Author.Needs.{needs}
 use Rattle.word_cipher.proofs.encrypt_words.Statement.{statement}
 use Rattle.word_cipher.proofs.encrypt_words.Tie as tie

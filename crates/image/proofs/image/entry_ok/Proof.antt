@@ -7,7 +7,11 @@ use Rattle.image.proofs.image.entry_ok.Tie as tie
 
 returns : tie.Need-returns
 unfolding entryOk
-returns c = rw (c .body-at .ensures .0, c .before .position-of .ensures, c .before .before .spi-before .ensures, c .before .before .before .spi-of .ensures)
+returns c =
+    let start = c .before .before .before in
+    rw (c .position-inside .ensures, c .before .spi-inside .ensures, start .pre .1, start .pre .2)
 
 pub entry-ok-spec : {M : Type 1} → statement M
-entry-ok-spec = tie.close (tie.spec (λ c κs. search needs) (λ c κs. search needs) (λ c κs. search needs) (λ c κs. search needs) returns)
+entry-ok-spec =
+    tie.close
+    (tie.spec (λ c κs. search needs) (λ c κs. search needs) returns)

@@ -5,6 +5,9 @@ use borrow.Author.Needs.{needs}
 use Rattle.numbers.proofs.numbers.test_standing.Statement.{statement}
 use Rattle.numbers.proofs.numbers.test_standing.Tie as tie
 
+marks-agree-requires : tie.Need-marks-agree-requires
+marks-agree-requires c κs = sym (c .before .image-ok .ensures) ∙ c .if1 .taken
+
 returns : tie.Need-returns
 returns c =
     let ok = sym (c .before .before .before .image-ok .ensures) ∙ c .before .before .if1 .taken in
@@ -21,4 +24,4 @@ returns-3 c = simp (sym (c .before .image-ok .ensures) ∙ c .if1 .left)
 pub test-standing-spec : {M : Type 1} → statement M
 test-standing-spec =
     tie.close
-    (tie.spec (λ c κs. search needs) (λ c κs. search needs) returns returns-2 returns-3)
+    (tie.spec (λ c κs. search needs) marks-agree-requires returns returns-2 returns-3)

@@ -1,0 +1,2 @@
+pub mod NoteCommands
+pub mod Steps

@@ -1,0 +1,2 @@
+pub mod Guests
+pub mod Noting
