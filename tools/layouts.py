@@ -876,13 +876,14 @@ NOTES = {
     "noted_calls": (24, 6, 160, FREE, "these, for C"),
     "noted_promises": (212, 6, 330, FREE, "theorems alone"),
     "noted_desks": (212, 7, 498, FREE, "theorems on two runs side by side"),
+    "secrecy": (24, 7, 184, FREE, "theorems on secrets"),
 }
 
 
 # Crates that are one box in the picture of the layers. Those of theorems show that no promise is empty.
 TOGETHER = {
     "witnesses": {
-        "witness_frames", "round_trip_witnesses", "answer_witnesses", "bit_witnesses", "header_bit_witnesses", "secured_bit_witnesses", "run_witnesses", "isolation_witnesses", "desk_witnesses", "noted_witnesses",
+        "witness_frames", "round_trip_witnesses", "answer_witnesses", "bit_witnesses", "header_bit_witnesses", "secured_bit_witnesses", "run_witnesses", "isolation_witnesses", "desk_witnesses", "noted_witnesses", "secrecy_witnesses",
     },
     "word_cipher": {"word_rounds", "word_cipher"},
     "cmac": {"subkeys", "message_blocks", "cmac"},
@@ -971,7 +972,7 @@ def noting():
         ("noted_promises", "command_promises", 471), ("desks", "command_promises", 633), ("noted_calls", "lent_calls", 88), ("noted_calls", "noting", 178),
         ("noting", "note_commands", 257), ("noting", "checking", 548), ("noting", "commands", 658), ("note_commands", "notes", 124),
         ("note_commands", "command_form", 297), ("note_commands", "link", 430), ("notes", "reports", 72), ("notes", "event_log", 176),
-        ("reports", "octets", 72), ("event_log", "octets", 176),
+        ("reports", "octets", 72), ("event_log", "octets", 176), ("secrecy", "noting", 191), ("secrecy", "promises", 205),
     ]
     return beside(Picture("noting", "The crates of reports and log"), NOTES, module, arrows, [])
 

@@ -38,7 +38,13 @@ enum fault {
     LABORATORY_DUMPS,  /* a laboratory dumps the log */
     BEYOND_THE_LIST,   /* events that are counted beyond the room of the list are dumped */
     NEWEST_FIRST,      /* a dump has the last event first */
-    EARLY_EVENT        /* an event is written before the stores */
+    EARLY_EVENT,       /* an event is written before the stores */
+    /* what a check tells of secrets */
+    STORES_TELL,       /* where the data begins with an odd octet, one octet of the image is stored once more */
+    ANSWER_TELLS,      /* a wrong MAC gives 8 where the key begins with an even octet */
+    LENGTH_TELLS,      /* a zero at the end of the data is not counted */
+    NUMBER_TELLS,      /* where the data begins with an odd octet, the number is one higher, under the same mark */
+    REPORT_TELLS       /* a wrong MAC is reported with its first octet for the number */
 };
 
 static enum fault fault(void)
@@ -186,6 +192,31 @@ static void miscount(const struct call *call, struct effect *effect)
     }
 }
 
+/* What a check tells of key and data, beyond how the MAC compared. */
+static void tell_secrets(const struct call *call, const struct table *table, struct effect *effect)
+{
+    struct header header;
+    if (!read_secured_frame(call->kind, call->has_field, call->frame, call->frame_length, &header)) {
+        return;
+    }
+    unsigned spi = call->frame[header.length] * 256u + call->frame[header.length + 1];
+    bool is_odd = effect->answer == 0 && effect->result[0] % 2 == 1;
+    for (size_t i = 0; i < table->count; i++) {
+        if (fault() == ANSWER_TELLS && effect->answer == 7 && table->entries[i].spi == spi && table->entries[i].key[0] % 2 == 0) {
+            effect->answer = 8;
+        }
+    }
+    if (fault() == STORES_TELL && is_odd && effect->store_count < MOST_STORES) {
+        effect->stores[effect->store_count++] = (struct store){1, call->image[1]};
+    } else if (fault() == LENGTH_TELLS && effect->answer == 0 && effect->result[effect->length - 1] == 0) {
+        effect->length--;
+    } else if (fault() == NUMBER_TELLS && is_odd && effect->number % 64 != 63) {
+        effect->number++;
+    } else if (fault() == REPORT_TELLS && effect->answer == 7) {
+        effect->notes.reports[call->desk][3] = call->frame[call->frame_length - header.trailer - MAC_LENGTH];
+    }
+}
+
 enum which { LOAD, SECURE, CHECK, COMMAND };
 
 /* The report of one desk in place of another's, and back: where the reading is told another desk, the report is that of the caller's all the same. */
@@ -222,6 +253,8 @@ static void read_with_fault(struct call *call, enum which which, struct effect *
             tell_too_much(call, &table, effect);
         } else if (which == SECURE && fault() == OTHERS_NUMBER) {
             take_others_number(call, &table, effect);
+        } else if (which == CHECK) {
+            tell_secrets(call, &table, effect);
         }
     }
     if (which == CHECK) {

@@ -1,0 +1,4 @@
+pub mod SameCalls
+pub mod SameFrames
+pub mod SameImages
+pub mod Secrecy
