@@ -1,32 +1,40 @@
 // The fields of a line, each in hexadecimal.
 use lines::field;
+use lines::front;
 use lines::read_octets;
 
 // Whether field n spells octets, at most 96, and nothing else.
-pub(crate) fn is_whole(line: &[u8], n: usize) -> bool {
+pub fn is_whole(line: &[u8], n: usize) -> bool {
     let mut octets = [0u8; 96];
     let text = field(line, n);
     let count = read_octets(text, &mut octets);
     (text.len() % 2 == 0) & (text.len() / 2 == count)
 }
 
-pub(crate) fn spells(line: &[u8], n: usize, count: usize) -> bool {
+pub fn spells(line: &[u8], n: usize, count: usize) -> bool {
     is_whole(line, n) & (field(line, n).len() / 2 == count)
 }
 
-pub(crate) fn is_empty(line: &[u8], n: usize) -> bool {
+// Whether field n spells these octets and nothing else.
+pub fn is_field(line: &[u8], n: usize, octets: &[u8]) -> bool {
+    let mut published = [0u8; 96];
+    let count = read_octets(field(line, n), &mut published);
+    is_whole(line, n) & check::same(front(&published, count), octets)
+}
+
+pub fn is_empty(line: &[u8], n: usize) -> bool {
     field(line, n).len() == 0
 }
 
 // The key, which is field 0 of every line.
-pub(crate) fn key(line: &[u8]) -> [u8; 32] {
+pub fn key(line: &[u8]) -> [u8; 32] {
     let mut octets = [0u8; 32];
     read_octets(field(line, 0), &mut octets);
     octets
 }
 
 // At most 16 octets of a field; the others are 0.
-pub(crate) fn block(line: &[u8], n: usize) -> [u8; 16] {
+pub fn block(line: &[u8], n: usize) -> [u8; 16] {
     let mut octets = [0u8; 16];
     read_octets(field(line, n), &mut octets);
     octets
