@@ -1,5 +1,6 @@
 // An entry of GCM's published vectors, a line `KEY IV PLAINTEXT ADDITIONAL CIPHERTEXT TAG`, and whether both engines seal and open it as
-// published. What a program writes of it is held to a text, so nothing here has a contract: each function is proved safe, and to end.
+// published. What a program counts of `is_sealed` and `is_opened` is held to a text, so these two have no contract: they are proved safe, and to
+// end.
 mod entries;
 mod openings;
 mod seals;

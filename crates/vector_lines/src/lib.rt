@@ -1,5 +1,4 @@
 // What the programs that run published vectors share: the fields of a line, each in hexadecimal, and how the vectors of a file went.
-// What a program writes is held to a text, so nothing here has a contract: each function is proved safe, and to end.
 mod fields;
 mod tally;
 
