@@ -1,6 +1,6 @@
 // An entry of GCM's published vectors, a line `KEY IV PLAINTEXT ADDITIONAL CIPHERTEXT TAG`, and whether both engines seal and open it as
-// published. What a program counts of `is_sealed` and `is_opened` is held to a text, so these two have no contract: they are proved safe, and to
-// end.
+// published. Where `is_sealed` or `is_opened` answers true, GCM's definitions make of the line's fields what the line says (specs/Entry); when
+// they answer false, their contracts leave free.
 mod entries;
 mod openings;
 mod seals;

@@ -10,8 +10,13 @@ use lines::read_octets;
 use vector_lines::block;
 use vector_lines::is_field;
 use vector_lines::key;
+ghost use mathlib.Core.Path.{_≡_};
+ghost use mathlib.Core.Bool.{true};
+ghost use Rattle.gcm_entries.specs.Entry.{textIn, OpenedFrom, OpenedAs};
 
-fn is_opened_by_octets(line: &[u8], additional: &[u8], ciphertext: &[u8]) -> bool {
+fn is_opened_by_octets(line: &[u8], additional: &[u8], ciphertext: &[u8]) -> bool
+    ensures { λ r. ⌜ (r ≡ true → OpenedFrom (now (line .entry)) (now (additional .entry)) (now (ciphertext .entry))) ⌝ }
+{
     let mut out = [0u8; 64];
     let tag = block(line, TAG);
     let outcome = gcm::open(key(line), iv(line), additional, ciphertext, tag, &mut out);
@@ -44,7 +49,9 @@ fn is_decrypted_by_words(line: &[u8], ciphertext: &[u8]) -> bool {
     is_field(line, PLAINTEXT, front(&out, ciphertext.len()))
 }
 
-fn is_opened_with(line: &[u8], additional: &[u8]) -> bool {
+fn is_opened_with(line: &[u8], additional: &[u8]) -> bool
+    ensures { λ r. ⌜ (r ≡ true → OpenedFrom (now (line .entry)) (now (additional .entry)) (textIn 64 4 (now (line .entry)))) ⌝ }
+{
     let mut ciphertext = [0u8; 64];
     let count = read_octets(field(line, CIPHERTEXT), &mut ciphertext);
     let ciphertext = front(&ciphertext, count);
@@ -54,7 +61,9 @@ fn is_opened_with(line: &[u8], additional: &[u8]) -> bool {
 }
 
 // Whether both engines open an entry as published.
-pub fn is_opened(line: &[u8]) -> bool {
+pub fn is_opened(line: &[u8]) -> bool
+    ensures { λ r. ⌜ (r ≡ true → OpenedAs (now (line .entry))) ⌝ }
+{
     let mut additional = [0u8; 96];
     let count = read_octets(field(line, ADDITIONAL), &mut additional);
     is_opened_with(line, front(&additional, count))
