@@ -1125,7 +1125,9 @@ static void try_command(struct run *run, struct end *own)
         run->command_cuts++;
     }
     run_input(run, &input, &target, end);
-    own->record = end->record;
+    if (end != own) { /* what is noted of a call on the copy is kept */
+        own->record = end->record;
+    }
 }
 
 static void try_raise(struct run *run, const struct end *end)

@@ -59,11 +59,14 @@ need_compiler() {
     need_tool "$compiler" "A C compiler" gcc libc6-dev
 }
 
-# OpenSSL's libcrypto, 3.0 or later, with its headers: tried, not looked for.
+# OpenSSL's libcrypto, 3.0 or later, with its headers: tried, not looked for; in a folder of this process, as two may ask at the same time.
 has_openssl() {
-    printf '#include <openssl/evp.h>\nint main(void) { return EVP_MAC_fetch(0, "CMAC", 0) == 0; }\n' >"$room/openssl_here.c"
-    "$compiler" -o "$room/openssl_here" "$room/openssl_here.c" -lcrypto >"$room/openssl_here.log" 2>&1 &&
-        run_program "$room/openssl_here"
+    here=$room/openssl_here.$$
+    mkdir -p "$here"
+    printf '#include <openssl/evp.h>\nint main(void) { return EVP_MAC_fetch(0, "CMAC", 0) == 0; }\n' >"$here/try.c"
+    "$compiler" -o "$here/try" "$here/try.c" -lcrypto >"$here/log" 2>&1 && run_program "$here/try" && found=0 || found=$?
+    rm -rf "$here"
+    return "$found"
 }
 
 need_openssl() {

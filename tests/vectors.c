@@ -1,8 +1,8 @@
-/* The published vectors through OpenSSL, by the functions that the reading uses. It reads the files that the proved program cipher_vectors
- * reads, and writes what that program has to write, crates/cipher_vectors/stdout: both data and expectation then have a second
- * implementation behind them. Ends with 1 where a vector differs.
+/* The published vectors through OpenSSL, by the functions that the reading uses. It reads the files that the proved programs aes_vectors,
+ * cmac_vectors and gcm_vectors read, and writes what they have to write, one behind the other, the file stdout of each: both data and
+ * expectation then have a second implementation behind them. Ends with 1 where a vector differs.
  *
- *   vectors FOLDER     (crates/cipher_vectors/data) */
+ *   vectors AES CMAC GCM     (crates/aes_vectors/data crates/cmac_vectors/data crates/gcm_vectors/data) */
 #include "independent/ciphers.h"
 
 #include <stdio.h>
@@ -188,20 +188,20 @@ static size_t run_gcm_file(const char *folder, const char *file, const char *nam
 int main(int argument_count, char **arguments)
 {
     static const char *const ecb[] = {"ECBGFSbox256", "ECBKeySbox256", "ECBVarTxt256", "ECBVarKey256", "ECBMMT256"};
-    if (argument_count != 2) {
-        fprintf(stderr, "usage: %s FOLDER\n", arguments[0]);
+    if (argument_count != 4) {
+        fprintf(stderr, "usage: %s AES CMAC GCM\n", arguments[0]);
         return 2;
     }
-    const char *folder = arguments[1];
-    size_t differ = run_file(folder, "FIPS197A3.txt", "FIPS 197 A.3", "words", try_word);
-    differ += run_file(folder, "FIPS197C3.txt", "FIPS 197 C.3", "encryptions", try_encryption);
+    const char *of_aes = arguments[1], *of_cmac = arguments[2], *of_gcm = arguments[3];
+    size_t differ = run_file(of_aes, "FIPS197A3.txt", "FIPS 197 A.3", "words", try_word);
+    differ += run_file(of_aes, "FIPS197C3.txt", "FIPS 197 C.3", "encryptions", try_encryption);
     for (size_t i = 0; i < sizeof ecb / sizeof ecb[0]; i++) {
         char file[32];
         snprintf(file, sizeof file, "%s.txt", ecb[i]);
-        differ += run_file(folder, file, ecb[i], "encryptions", try_encryption);
+        differ += run_file(of_aes, file, ecb[i], "encryptions", try_encryption);
     }
-    differ += run_file(folder, "SP80038B.txt", "SP 800-38B", "MACs", try_mac);
-    differ += run_gcm_file(folder, "GCM13to16.txt", "GCM test cases 13 to 16");
-    differ += run_gcm_file(folder, "gcmEncryptExtIV256.txt", "gcmEncryptExtIV256");
+    differ += run_file(of_cmac, "SP80038B.txt", "SP 800-38B", "MACs", try_mac);
+    differ += run_gcm_file(of_gcm, "GCM13to16.txt", "GCM test cases 13 to 16");
+    differ += run_gcm_file(of_gcm, "gcmEncryptExtIV256.txt", "gcmEncryptExtIV256");
     return differ != 0;
 }

@@ -1028,12 +1028,16 @@ def layers():
         "witnesses": (538, 15, 172, FREE, "not empty: 11 crates"),
     }
     programs = {
-        "link_cases": (7, "runs the calls"),
-        "listing_cases": (9, "runs listing_text"),
-        "salvage_cases": (8, "runs salvage's crates"),
-        "cipher_vectors": (5, "runs cipher, cmac, gcm"),
+        "listing_cases": (12, "runs listing_text"),
+        "salvage_cases": (11, "runs salvage's crates"),
+        "link_cases": (10, "runs the calls"),
+        "gcm_vectors": (8, "runs gcm"),
+        "gcm_entries": (7, "an entry of its vectors"),
+        "cmac_vectors": (6, "runs cmac"),
+        "aes_vectors": (5, "runs cipher, word_cipher"),
         "cipher_bench": (4, "times cipher, cmac, gcm"),
         "frame_cases": (3, "runs frame, kinds, masking"),
+        "vector_lines": (2, "vectors, for three of them"),
         "lines": (1, "lines of text for them"),
     }
     arrows = [

@@ -1,5 +1,5 @@
 #!/usr/bin/env python3
-"""Makes the data of crates/cipher_vectors that comes from NIST's published files.
+"""Makes the data of crates/aes_vectors, cmac_vectors and gcm_vectors that comes from NIST's published files.
 
   python3 tools/make_vectors.py FOLDER
 
@@ -18,8 +18,9 @@ GCM specification; this script leaves them alone.
 import argparse
 import pathlib
 import re
+import sys
 
-DATA = pathlib.Path(__file__).resolve().parent.parent / "crates" / "cipher_vectors" / "data"
+CRATES = pathlib.Path(__file__).resolve().parent.parent / "crates"
 BLOCK = 32  # digits of a block
 ECB = ["ECBGFSbox256", "ECBKeySbox256", "ECBVarTxt256", "ECBVarKey256", "ECBMMT256"]
 
@@ -41,8 +42,8 @@ def blocks(record):
         yield (key, plain[at:at + BLOCK], secret[at:at + BLOCK])
 
 
-def write(name, made):
-    (DATA / f"{name}.txt").write_text("".join(" ".join(line) + "\n" for line in made))
+def write(program, name, made):
+    (CRATES / program / "data" / f"{name}.txt").write_text("".join(" ".join(line) + "\n" for line in made))
     print(f"{name}: {len(made)}")
 
 
@@ -54,9 +55,10 @@ def main(folder):
         encrypt, decrypt = read(f"{name}.rsp").split("[ENCRYPT]")[1].split("[DECRYPT]")
         messages = records(encrypt, ["KEY", "PLAINTEXT", "CIPHERTEXT"])
         messages += [(key, plain, secret) for key, secret, plain in records(decrypt, ["KEY", "CIPHERTEXT", "PLAINTEXT"])]
-        write(name, [line for message in dict.fromkeys(messages) for line in blocks(message)])
-    write("SP80038B", records(read("nist-800-38b-aes256.txt"), ["KEY", "MESSAGE", "OUTPUT"]))
-    write("gcmEncryptExtIV256", records(read("gcmEncryptExtIV256-iv96-tag128.rsp"), ["Key", "IV", "PT", "AAD", "CT", "Tag"]))
+        write("aes_vectors", name, [line for message in dict.fromkeys(messages) for line in blocks(message)])
+    write("cmac_vectors", "SP80038B", records(read("nist-800-38b-aes256.txt"), ["KEY", "MESSAGE", "OUTPUT"]))
+    entries = records(read("gcmEncryptExtIV256-iv96-tag128.rsp"), ["Key", "IV", "PT", "AAD", "CT", "Tag"])
+    write("gcm_vectors", "gcmEncryptExtIV256", entries)
 
 
 parser = argparse.ArgumentParser(description=__doc__, formatter_class=argparse.RawDescriptionHelpFormatter)

@@ -42,56 +42,64 @@ pub struct Layout {
     pub owners: bool,
 }
 
+const VERSION_ONE: Layout = Layout {
+    version: 1,
+    body: 52,
+    key: 16,
+    mark: 48,
+    extra: 0,
+    sets: false,
+    keys: false,
+    owners: false,
+};
+
+const VERSION_TWO: Layout = Layout {
+    version: 2,
+    body: 52,
+    key: 16,
+    mark: 48,
+    extra: 0,
+    sets: true,
+    keys: false,
+    owners: false,
+};
+
+const VERSION_THREE: Layout = Layout {
+    version: 3,
+    body: 22,
+    key: 16,
+    mark: 18,
+    extra: 1,
+    sets: true,
+    keys: true,
+    owners: false,
+};
+
+const VERSION_FOUR: Layout = Layout {
+    version: 4,
+    body: 23,
+    key: 16,
+    mark: 18,
+    extra: 1,
+    sets: true,
+    keys: true,
+    owners: true,
+};
+
 // The layout of a version; another number is read as version 1 is, and is not the number of that layout.
 pub fn layout_of(version: u8) -> Layout
     ensures { λ r. ⌜ (r ≡ layoutOf version) × Lawful r ⌝ }
 {
     if version == 4 {
-        return Layout {
-            version: 4,
-            body: 23,
-            key: 16,
-            mark: 18,
-            extra: 1,
-            sets: true,
-            keys: true,
-            owners: true,
-        };
+        return VERSION_FOUR;
     }
     if version == 3 {
-        return Layout {
-            version: 3,
-            body: 22,
-            key: 16,
-            mark: 18,
-            extra: 1,
-            sets: true,
-            keys: true,
-            owners: false,
-        };
+        return VERSION_THREE;
     }
     if version == 2 {
-        return Layout {
-            version: 2,
-            body: 52,
-            key: 16,
-            mark: 48,
-            extra: 0,
-            sets: true,
-            keys: false,
-            owners: false,
-        };
+        return VERSION_TWO;
     }
-    Layout {
-        version: 1,
-        body: 52,
-        key: 16,
-        mark: 48,
-        extra: 0,
-        sets: false,
-        keys: false,
-        owners: false,
-    }
+    VERSION_ONE
 }
 
 // There is a version if it has a layout of its own.

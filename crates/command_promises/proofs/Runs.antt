@@ -11,11 +11,12 @@ use Rattle.image.specs.Image.{validImage}
 use Rattle.link.specs.Calls.{loaded}
 use Rattle.promises.specs.Images.{countIn, directionAt, lastAt}
 use Rattle.promises.specs.Runs as frames
-use Rattle.promises.specs.Runs.{State, kept, restart, sent, released, Without, Once}
+use Rattle.promises.specs.Runs.{State, kept, restart, sent, released, ReleasedAfter, ReleasedRise, sentIn, releasedIn, Without, Once}
 use Rattle.promises.proofs.Keeps.{Inv, loaded-image, load-inv}
+use Rattle.promises.proofs.Runs.{released-once}
 use Rattle.promises.proofs.Valids.{rules-kept, rules-valid}
 use Rattle.command_promises.specs.Runs.{Step, call, command, commandCut, after, ran, OfOctets, Shown, saw, numbered, told, shows, trace}
-use Rattle.command_promises.specs.Runs.{SentAfter, SentRise, ReleasedAfter, ReleasedRise, sentIn, releasedIn, Runs}
+use Rattle.command_promises.specs.Runs.{SentAfter, SentRise, seen, Runs}
 use Rattle.command_promises.proofs.Effects.{Effect, quiet, loads, sends, frees, raises, raisesCut, effect}
 use Rattle.command_promises.proofs.Keeps.{Spoken, Keeps, keeps}
 use Rattle.command_promises.proofs.Unmanaged.{Same, same-itself, same-then, count-same, direction-same}
@@ -144,8 +145,8 @@ sent-rise e (v ∷ vs) x o inv below =
 -- ---- releasing
 
 released-after : (e : ℕ) (vs : List Step) (x : State) (p : ℕ) → OfOctets vs → Inv x → e < countIn (x .image)
-    → (validImage (x .image) ≡ true → p ≤ lastAt (x .numbers) e) → ReleasedAfter p (trace e x vs)
-unfolding trace ReleasedAfter
+    → (validImage (x .image) ≡ true → p ≤ lastAt (x .numbers) e) → ReleasedAfter p (seen (trace e x vs))
+unfolding trace seen ReleasedAfter
 released-after e [] x p o inv below a = tt
 released-after e (v ∷ vs) x p o inv below a =
     let k = keeps x v (first-spoken v vs o) inv in
@@ -153,8 +154,8 @@ released-after e (v ∷ vs) x p o inv below a =
     (λ q. released-after e vs (after x v) q (rest-spoken v vs o) (k .inv) (next-below e x (after x v) k below))
   where
     by-effect : Keeps x (after x v) → Effect e x (after x v) (shows e x v)
-        → ((q : ℕ) → (validImage (after x v .image) ≡ true → q ≤ lastAt (after x v .numbers) e) → ReleasedAfter q (trace e (after x v) vs))
-        → ReleasedAfter p (shows e x v ++ trace e (after x v) vs)
+        → ((q : ℕ) → (validImage (after x v .image) ≡ true → q ≤ lastAt (after x v .numbers) e) → ReleasedAfter q (seen (trace e (after x v) vs)))
+        → ReleasedAfter p (seen (shows e x v ++ trace e (after x v) vs))
     by-effect k (quiet shown same) ih = rw shown (ih p (λ passed. omega (arith, a (before e x (after x v) k passed))))
     by-effect k (loads shown low high) ih =
         rw shown (ih p (λ passed. let old = before e x (after x v) k passed in omega (arith, a old, low old)))
@@ -164,16 +165,16 @@ released-after e (v ∷ vs) x p o inv below a =
     by-effect k (raisesCut shown up) ih =
         rw shown (ih p (λ passed. let old = before e x (after x v) k passed in omega (arith, a old, up old)))
 
-released-rise : (e : ℕ) (vs : List Step) (x : State) → OfOctets vs → Inv x → e < countIn (x .image) → ReleasedRise (trace e x vs)
-unfolding trace ReleasedRise
+released-rise : (e : ℕ) (vs : List Step) (x : State) → OfOctets vs → Inv x → e < countIn (x .image) → ReleasedRise (seen (trace e x vs))
+unfolding trace seen ReleasedRise
 released-rise e [] x o inv below = tt
 released-rise e (v ∷ vs) x o inv below =
     let k = keeps x v (first-spoken v vs o) inv in
     by-effect k (effect e x v (first-spoken v vs o) inv below)
     (released-rise e vs (after x v) (rest-spoken v vs o) (k .inv) (next-below e x (after x v) k below))
   where
-    by-effect : Keeps x (after x v) → Effect e x (after x v) (shows e x v) → ReleasedRise (trace e (after x v) vs)
-        → ReleasedRise (shows e x v ++ trace e (after x v) vs)
+    by-effect : Keeps x (after x v) → Effect e x (after x v) (shows e x v) → ReleasedRise (seen (trace e (after x v) vs))
+        → ReleasedRise (seen (shows e x v ++ trace e (after x v) vs))
     by-effect k (quiet shown same) ih = rw shown ih
     by-effect k (loads shown low high) ih = rw shown ih
     by-effect k (sends passed one shown new) ih = rw shown ih
@@ -188,53 +189,29 @@ released-rise e (v ∷ vs) x o inv below =
 abbrev Above : ℕ → List ℕ → Type 0
 Above p ns = (q : ℕ) → q ≤ p → Without q ns
 
-sent-above : (r : List Shown) (p l : ℕ) (free : Bool) → SentAfter p l free r → Above p (sentIn r)
-unfolding SentAfter sentIn Without
+sent-above : (r : List Shown) (p l : ℕ) (free : Bool) → SentAfter p l free r → Above p (sentIn (seen r))
+unfolding SentAfter seen sentIn Without
 sent-above [] p l free a q h = tt
 sent-above (saw restart ∷ r) p l free a q h = sent-above r p (l + 1) free a q h
 sent-above (saw (sent n) ∷ r) p l free a q h = (λ e. omega (arith, a .0), sent-above r n 0 false (a .2) q (omega (arith, a .0)))
 sent-above (saw (released n) ∷ r) p l free a q h = sent-above r p l free a q h
 sent-above (numbered ∷ r) p l free a q h = sent-above r p l true a q h
 
-sent-once-after : (r : List Shown) (p l : ℕ) (free : Bool) → SentAfter p l free r → Once (sentIn r)
-unfolding SentAfter sentIn Once
+sent-once-after : (r : List Shown) (p l : ℕ) (free : Bool) → SentAfter p l free r → Once (sentIn (seen r))
+unfolding SentAfter seen sentIn Once
 sent-once-after [] p l free a = tt
 sent-once-after (saw restart ∷ r) p l free a = sent-once-after r p (l + 1) free a
 sent-once-after (saw (sent n) ∷ r) p l free a = (sent-above r n 0 false (a .2) n (omega arith), sent-once-after r n 0 false (a .2))
 sent-once-after (saw (released n) ∷ r) p l free a = sent-once-after r p l free a
 sent-once-after (numbered ∷ r) p l free a = sent-once-after r p l true a
 
-sent-once : (r : List Shown) → SentRise r → Once (sentIn r)
-unfolding SentRise sentIn Once
+sent-once : (r : List Shown) → SentRise r → Once (sentIn (seen r))
+unfolding SentRise seen sentIn Once
 sent-once [] a = tt
 sent-once (saw restart ∷ r) a = sent-once r a
 sent-once (saw (sent n) ∷ r) a = (sent-above r n 0 false a n (omega arith), sent-once-after r n 0 false a)
 sent-once (saw (released n) ∷ r) a = sent-once r a
 sent-once (numbered ∷ r) a = sent-once r a
-
-released-above : (r : List Shown) (p : ℕ) → ReleasedAfter p r → Above p (releasedIn r)
-unfolding ReleasedAfter releasedIn Without
-released-above [] p a q h = tt
-released-above (saw restart ∷ r) p a q h = released-above r p a q h
-released-above (saw (sent n) ∷ r) p a q h = released-above r p a q h
-released-above (saw (released n) ∷ r) p a q h = (λ e. omega (arith, a .0), released-above r n (a .1) q (omega (arith, a .0)))
-released-above (numbered ∷ r) p a q h = released-above r p a q h
-
-released-once-after : (r : List Shown) (p : ℕ) → ReleasedAfter p r → Once (releasedIn r)
-unfolding ReleasedAfter releasedIn Once
-released-once-after [] p a = tt
-released-once-after (saw restart ∷ r) p a = released-once-after r p a
-released-once-after (saw (sent n) ∷ r) p a = released-once-after r p a
-released-once-after (saw (released n) ∷ r) p a = (released-above r n (a .1) n (omega arith), released-once-after r n (a .1))
-released-once-after (numbered ∷ r) p a = released-once-after r p a
-
-released-once : (r : List Shown) → ReleasedRise r → Once (releasedIn r)
-unfolding ReleasedRise releasedIn Once
-released-once [] a = tt
-released-once (saw restart ∷ r) a = released-once r a
-released-once (saw (sent n) ∷ r) a = released-once r a
-released-once (saw (released n) ∷ r) a = (released-above r n a n (omega arith), released-once-after r n a)
-released-once (numbered ∷ r) a = released-once r a
 
 -- ---- the image
 
@@ -253,7 +230,7 @@ ran-keeps (v ∷ vs) x o inv =
 -- ---- a run begun by a load
 
 pub runs : Runs
-unfolding ran after trace shows told frames.after frames.shows SentRise ReleasedRise sentIn releasedIn
+unfolding ran after trace shows told seen frames.after frames.shows SentRise ReleasedRise sentIn releasedIn
 runs image numbers steps octets o =
     let x : State = kept (loaded image numbers) in
     let inv = load-inv image numbers octets in
@@ -262,7 +239,7 @@ runs image numbers steps octets o =
     let all : Same image (ran x steps .image) = same-then image (x .image) first (ran x steps .image) (k .same) in
     let here : (e : ℕ) → e < countIn image → e < countIn (x .image) = λ e h. rw (loaded-image image numbers) h in
     let sending : (e : ℕ) → e < countIn image → SentRise (trace e x steps) = λ e h. sent-rise e steps x o inv (here e h) in
-    let releasing : (e : ℕ) → e < countIn image → ReleasedRise (trace e x steps) = λ e h. released-rise e steps x o inv (here e h) in
+    let releasing : (e : ℕ) → e < countIn image → ReleasedRise (seen (trace e x steps)) = λ e h. released-rise e steps x o inv (here e h) in
     record {
       images =
           record {
@@ -275,5 +252,5 @@ runs image numbers steps octets o =
       sent = sending;
       released = releasing;
       sentOnce = λ e h. sent-once (trace e x steps) (sending e h);
-      releasedOnce = λ e h. released-once (trace e x steps) (releasing e h);
+      releasedOnce = λ e h. released-once (seen (trace e x steps)) (releasing e h);
     }

@@ -19,7 +19,7 @@ use Rattle.link.specs.Calls.{loaded}
 use Rattle.commands.specs.Commanding.{commanded, commandedCut}
 use Rattle.promises.specs.Images.{shapeIn, countIn, spiAt, place, markPlace, keyCountIn, keyAt, ImageRules}
 use Rattle.promises.specs.Runs as frames
-use Rattle.promises.specs.Runs.{State, kept, restart, sent, released, Once, begun}
+use Rattle.promises.specs.Runs.{State, kept, restart, sent, released, ReleasedRise, sentIn, releasedIn, Once, begun}
 
 -- ---- a run
 
@@ -89,35 +89,12 @@ SentRise (saw (sent n) ∷ r) = SentAfter n 0 false r
 SentRise (saw (released n) ∷ r) = SentRise r
 SentRise (numbered ∷ r) = SentRise r
 
--- after p was released: each number released exceeds the one before
-unfoldable pub ReleasedAfter : ℕ → List Shown → Type 0
-ReleasedAfter p [] = Unit {0}
-ReleasedAfter p (saw restart ∷ r) = ReleasedAfter p r
-ReleasedAfter p (saw (sent n) ∷ r) = ReleasedAfter p r
-ReleasedAfter p (saw (released n) ∷ r) = (p < n) × ReleasedAfter n r
-ReleasedAfter p (numbered ∷ r) = ReleasedAfter p r
-
-unfoldable pub ReleasedRise : List Shown → Type 0
-ReleasedRise [] = Unit {0}
-ReleasedRise (saw restart ∷ r) = ReleasedRise r
-ReleasedRise (saw (sent n) ∷ r) = ReleasedRise r
-ReleasedRise (saw (released n) ∷ r) = ReleasedAfter n r
-ReleasedRise (numbered ∷ r) = ReleasedRise r
-
--- the numbers sent, and those released
-unfoldable pub sentIn : List Shown → List ℕ
-sentIn [] = []
-sentIn (saw restart ∷ r) = sentIn r
-sentIn (saw (sent n) ∷ r) = n ∷ sentIn r
-sentIn (saw (released n) ∷ r) = sentIn r
-sentIn (numbered ∷ r) = sentIn r
-
-unfoldable pub releasedIn : List Shown → List ℕ
-releasedIn [] = []
-releasedIn (saw restart ∷ r) = releasedIn r
-releasedIn (saw (sent n) ∷ r) = releasedIn r
-releasedIn (saw (released n) ∷ r) = n ∷ releasedIn r
-releasedIn (numbered ∷ r) = releasedIn r
+-- what is left of it without set numbers, of which the same is promised as of a run without commands: numbers released rise, and none is sent or
+-- released twice
+unfoldable pub seen : List Shown → List frames.Shown
+seen [] = []
+seen (saw s ∷ r) = s ∷ seen r
+seen (numbered ∷ r) = seen r
 
 -- ---- and of the image
 
@@ -151,9 +128,9 @@ shownOf e image numbers steps = trace e (begun image) (call (frames.load numbers
 pub record Run (image numbers : List ℕ) (steps : List Step) : Type 0 where
   pub images : ManagedAlone image (imageAfter image numbers steps)
   pub sent : (e : ℕ) → e < countIn image → SentRise (shownOf e image numbers steps)
-  pub released : (e : ℕ) → e < countIn image → ReleasedRise (shownOf e image numbers steps)
-  pub sentOnce : (e : ℕ) → e < countIn image → Once (sentIn (shownOf e image numbers steps))
-  pub releasedOnce : (e : ℕ) → e < countIn image → Once (releasedIn (shownOf e image numbers steps))
+  pub released : (e : ℕ) → e < countIn image → ReleasedRise (seen (shownOf e image numbers steps))
+  pub sentOnce : (e : ℕ) → e < countIn image → Once (sentIn (seen (shownOf e image numbers steps)))
+  pub releasedOnce : (e : ℕ) → e < countIn image → Once (releasedIn (seen (shownOf e image numbers steps)))
 
 abbrev pub Runs : Type 0
 Runs = (image numbers : List ℕ) (steps : List Step) → Octets image → OfOctets steps → Run image numbers steps

@@ -23,15 +23,18 @@ module _ (notes : List ℕ → Left → LentNotes) (call : List ℕ → Left) (i
   abbrev noting : List ℕ → Left → Noted
   noting given x = record { left = x; notes = notes given x }
 
-  pub noted-returned : (q : NotedOutcome) {r : ℕ} {given i n u e : List ℕ} → length numbers ≡ 32 → given ≡ numbers
+  pub noted-returned : (q : NotedOutcome) {r : ℕ} {m : Notes} {given i n u e : List ℕ} → length numbers ≡ 32 → given ≡ numbers
       → leavingNoted q i u e ≡ noting given (call given)
-      → n ≡ q .outcome .numbers .last
-      → r ≡ word (reported (q .outcome .answer) .number) (reported (q .outcome .answer) .length) (reported (q .outcome .answer) .stores)
-      → NotedReturned (noting numbers (counted image numbers output (call numbers))) r (q .notes) e i n u
-  noted-returned q h g e back p =
+      → (r ≡ word (reported (q .outcome .answer) .number) (reported (q .outcome .answer) .length) (reported (q .outcome .answer) .stores))
+      × (m ≡ q .notes)
+      × (n ≡ q .outcome .numbers .last)
+      → NotedReturned (noting numbers (counted image numbers output (call numbers))) r m e i n u
+  noted-returned q {m = m} {e = e} h g left (word-made, kept, back) =
       record {
-        returned = returned call image numbers output (q .outcome) h g (ap (λ (x : Noted). x .left) e) back p;
-        notes = rw (eq-eqb (length numbers) 32 h) (ap (λ (x : Noted). x .notes) e ∙ ap (λ (l : List ℕ). notes l (call l)) g);
+        returned = returned call image numbers output (q .outcome) h g (ap (λ (x : Noted). x .left) left) back word-made;
+        notes =
+            rw (eq-eqb (length numbers) 32 h)
+            (ap (λ (x : Notes). lentNotes x e) kept ∙ ap (λ (x : Noted). x .notes) left ∙ ap (λ (l : List ℕ). notes l (call l)) g);
       }
 
   pub noted-miscounted : {r : ℕ} {m : Notes} {e : List ℕ} → (length numbers ≡ 32 → ⊥) → r ≡ word (cond (validImage image) 2 1) 0 0

@@ -8,12 +8,15 @@ use lent::numbers_in;
 use lent::pack;
 use lent::refuse_count;
 use notes::Notes;
+use noting::NotedOutcome;
 use octets::octet_at;
 use word_tables::word_tables;
 ghost use mathlib.Core.Path.{_≡_};
 ghost use mathlib.Core.Bool.{cond};
+ghost use lib.ListN.{length};
 ghost use Rattle.engines.specs.Lent.{Lent};
 ghost use Rattle.image.specs.Image.{validImage};
+ghost use Rattle.judging.specs.Answers.{reported};
 ghost use Rattle.lent.specs.Word.{word};
 ghost use Rattle.notes.specs.Noting.{lentNotes, notedCheck, notedCommand};
 ghost use Rattle.noted_calls.specs.NotedCalls.{Checks, Commands};
@@ -55,6 +58,21 @@ fn refuse_command(notes: Notes, events: &mut [u8], image: &[u8], desk: u8, tag: 
     }
 }
 
+// What a call that was made returns: the numbers go back to their list, and the answer into one number.
+fn returned(noted: NotedOutcome, numbers: &mut [u32]) -> NotedWord
+    requires { ⌜ length (now numbers) ≡ 32 ⌝ }
+    ensures { λ r. ⌜ (r .word ≡ word (reported (noted .outcome .answer) .number) (reported (noted .outcome .answer) .length) (reported (noted .outcome .answer) .stores)) × (r .notes ≡ noted .notes) × (now (numbers .exit) ≡ noted .outcome .numbers .last) ⌝ }
+{
+    let outcome = noted.outcome;
+    let answer = outcome.answer;
+    let notes = noted.notes;
+    hand_back(outcome.numbers, numbers);
+    NotedWord {
+        word: pack(answer),
+        notes,
+    }
+}
+
 // Checking by the engine that the tables are for.
 fn check_lent(
     notes: Notes,
@@ -74,21 +92,16 @@ fn check_lent(
     if numbers.len() != 32 {
         return refuse_check(notes, events, image, desk);
     }
-    let given = numbers_in(numbers);
     let said = Said {
         desk,
         kind,
         field: field != 0,
     };
-    let noted = noting::check_noted(notes, events, tables, image, given, said, frame, output);
-    let outcome = noted.outcome;
-    let answer = outcome.answer;
-    let left = noted.notes;
-    hand_back(outcome.numbers, numbers);
-    NotedWord {
-        word: pack(answer),
-        notes: left,
-    }
+    let given = numbers_in(numbers);
+    returned(
+        noting::check_noted(notes, events, tables, image, given, said, frame, output),
+        numbers,
+    )
 }
 
 // On board, where stack is dear.
@@ -164,13 +177,8 @@ pub fn command_noted(
         return refuse_command(notes, events, image, desk, octet_at(command, 0));
     }
     let given = numbers_in(numbers);
-    let noted = noting::command_noted(notes, events, image, given, desk, command, output);
-    let outcome = noted.outcome;
-    let answer = outcome.answer;
-    let left = noted.notes;
-    hand_back(outcome.numbers, numbers);
-    NotedWord {
-        word: pack(answer),
-        notes: left,
-    }
+    returned(
+        noting::command_noted(notes, events, image, given, desk, command, output),
+        numbers,
+    )
 }

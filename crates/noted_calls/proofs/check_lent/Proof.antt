@@ -33,8 +33,8 @@ returns c =
 returns-2 : tie.Need-returns-2
 unfolding checkCall checkNoted
 returns-2 c =
-    let at-back = c .before .before .before in
-    let at-check = at-back .before .before .before .before .before .before .before .before .before .before in
+    let at-return = c .before .before in
+    let at-check = at-return .before .before .before .before .before .before .before .before in
     let at-numbers = at-check .before .before .before .before in
     let at-else = at-numbers .before .before in
     let g = at-else .before .before .before .before .before .before .before .args in
@@ -47,8 +47,7 @@ returns-2 c =
     (at-else .if1 .left)
     (at-numbers .numbers-in .ensures)
     (at-check .check-noted .ensures)
-    (at-back .hand-back .ensures)
-    (c .pack .ensures)
+    (at-return .returned .ensures)
 
 pub check-lent-spec : {M : Type 1} → statement M
 check-lent-spec =
@@ -61,7 +60,6 @@ check-lent-spec =
     (λ c κs. search needs)
     (λ c κs. search needs)
     (λ c κs. search needs)
-    (λ c κs. tt)
     (λ c. search needs)
     (λ c. search needs)
     (λ c. search needs)

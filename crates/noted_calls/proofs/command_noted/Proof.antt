@@ -34,8 +34,8 @@ returns c =
 returns-2 : tie.Need-returns-2
 unfolding commandCall commandNoted
 returns-2 c =
-    let at-back = c .before .before .before in
-    let at-call = at-back .before .before .before .before .before .before .before .before .before .before in
+    let at-return = c .before .before in
+    let at-call = at-return .before .before .before .before .before .before .before .before in
     let at-numbers = at-call .before .before .before .before in
     let at-else = at-numbers .before .before in
     let g = at-else .before .before .before .before .before .before .args in
@@ -48,8 +48,7 @@ returns-2 c =
     (at-else .if1 .left)
     (at-numbers .numbers-in .ensures)
     (at-call .command-noted .ensures)
-    (at-back .hand-back .ensures)
-    (c .pack .ensures)
+    (at-return .returned .ensures)
 
 pub command-noted-spec : {M : Type 1} → statement M
 command-noted-spec =
@@ -63,7 +62,6 @@ command-noted-spec =
     (λ c κs. search needs)
     (λ c κs. tt)
     (λ c κs. search needs)
-    (λ c κs. tt)
     (λ c. search needs)
     (λ c. search needs)
     (λ c. search needs)
