@@ -11,6 +11,8 @@ add-result c =
     let given = c .before .before .before .args in
     record { fits = omega (arith, trailer-short (given .self) (given .frame .now)) }
 
+returns : tie.Need-returns
+returns c = search needs
+
 pub trailer-length-spec : {M : Type 1} → statement M
-trailer-length-spec =
-    tie.close (tie.spec (λ c κs. search needs) (λ c κs. search needs) add-result (λ c. search needs))
+trailer-length-spec = tie.close (tie.spec (λ c κs. search needs) (λ c κs. search needs) add-result returns)
