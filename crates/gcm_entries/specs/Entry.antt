@@ -5,10 +5,8 @@ use Prim.Native.Nat.{ℕ}
 use mathlib.Core.Bool.{Bool, _&&_}
 use mathlib.Core.List.{List}
 use lib.ListN.{length, take, replicate}
-use Rattle.lines.specs.Fields.{fieldOf}
-use Rattle.lines.specs.Hexadecimal.{octetsOf}
-use Rattle.vector_lines.specs.Spelled.{wholeField, spelledIn, emptyField, octetsIn}
-use Rattle.gcm.specs.Calls.{Call, sealed, opened}
+use Rattle.vector_lines.specs.Spelled.{textIn, octetsIn, wholeField, spelledIn, emptyField}
+use Rattle.gcm.specs.Calls.{sealed, opened}
 use Rattle.gcm.specs.declared.Answer.the-variants as answer
 use Rattle.gcm.specs.declared.Outcome.{Outcome}
 use Rattle.gcm.specs.declared.Outcome.the-variants as outcome
@@ -19,10 +17,6 @@ abbrev pub entryIn : List ℕ → Bool
 entryIn line =
     ((spelledIn 32 0 line && spelledIn 12 1 line) && (wholeField 2 line && wholeField 3 line))
     && ((wholeField 4 line && spelledIn 16 5 line) && emptyField 6 line)
-
--- the first octets that field n spells, at most so many
-abbrev pub textIn : ℕ → ℕ → List ℕ → List ℕ
-textIn most n line = take most (octetsOf (fieldOf n line))
 
 -- a call that seals has done so, with the ciphertext and the tag of the line
 pub record Published (line ciphertext : List ℕ) (result : Sealed) : Type 0 where

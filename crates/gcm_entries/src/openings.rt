@@ -12,7 +12,8 @@ use vector_lines::is_field;
 use vector_lines::key;
 ghost use mathlib.Core.Path.{_≡_};
 ghost use mathlib.Core.Bool.{true};
-ghost use Rattle.gcm_entries.specs.Entry.{textIn, OpenedFrom, OpenedAs};
+ghost use Rattle.vector_lines.specs.Spelled.{textIn};
+ghost use Rattle.gcm_entries.specs.Entry.{OpenedFrom, OpenedAs};
 
 fn is_opened_by_octets(line: &[u8], additional: &[u8], ciphertext: &[u8]) -> bool
     ensures { λ r. ⌜ (r ≡ true → OpenedFrom (now (line .entry)) (now (additional .entry)) (now (ciphertext .entry))) ⌝ }

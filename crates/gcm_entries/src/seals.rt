@@ -11,7 +11,8 @@ use vector_lines::is_field;
 use vector_lines::key;
 ghost use mathlib.Core.Path.{_≡_};
 ghost use mathlib.Core.Bool.{true};
-ghost use Rattle.gcm_entries.specs.Entry.{textIn, Published, SealedFrom, SealedAs};
+ghost use Rattle.vector_lines.specs.Spelled.{textIn};
+ghost use Rattle.gcm_entries.specs.Entry.{Published, SealedFrom, SealedAs};
 
 // Whether the ciphertext and the tag are the published ones.
 fn is_published(line: &[u8], ciphertext: &[u8], sealed: gcm::Sealed) -> bool

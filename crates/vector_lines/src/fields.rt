@@ -4,10 +4,7 @@ use lines::front;
 use lines::read_octets;
 ghost use mathlib.Core.Path.{_≡_};
 ghost use mathlib.Core.Bool.{true};
-ghost use lib.ListN.{take};
-ghost use Rattle.lines.specs.Fields.{fieldOf};
-ghost use Rattle.lines.specs.Hexadecimal.{octetsOf};
-ghost use Rattle.vector_lines.specs.Spelled.{wholeField, spelledIn, emptyField, octetsIn};
+ghost use Rattle.vector_lines.specs.Spelled.{textIn, octetsIn, wholeField, spelledIn, emptyField};
 
 // Whether field n spells octets, at most 96, and nothing else.
 pub fn is_whole(line: &[u8], n: usize) -> bool
@@ -28,7 +25,7 @@ pub fn spells(line: &[u8], n: usize, count: usize) -> bool
 
 // Whether field n spells these octets and nothing else.
 pub fn is_field(line: &[u8], n: usize, octets: &[u8]) -> bool
-    ensures { λ r. ⌜ (r ≡ true → (wholeField n (now (line .entry)) ≡ true) × (now (octets .entry) ≡ take 96 (octetsOf (fieldOf n (now (line .entry)))))) × (wholeField n (now (line .entry)) ≡ true → now (octets .entry) ≡ take 96 (octetsOf (fieldOf n (now (line .entry)))) → r ≡ true) ⌝ }
+    ensures { λ r. ⌜ (r ≡ true → (wholeField n (now (line .entry)) ≡ true) × (now (octets .entry) ≡ textIn 96 n (now (line .entry)))) × (wholeField n (now (line .entry)) ≡ true → now (octets .entry) ≡ textIn 96 n (now (line .entry)) → r ≡ true) ⌝ }
 {
     let mut published = [0u8; 96];
     let count = read_octets(field(line, n), &mut published);

@@ -1,6 +1,5 @@
 -- `iv` is right because the octets are read over zeros.
 -- Assumes nothing.
-use Rattle.vector_lines.specs.Spelled.{octetsIn}
 use Rattle.vector_lines.proofs.Reading.{filled}
 use borrow.Author.Needs.{needs}
 use Rattle.gcm_entries.proofs.entries.iv.Statement.{statement}

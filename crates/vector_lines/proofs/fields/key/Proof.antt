@@ -1,13 +1,11 @@
 -- `key` is right because the octets are read over zeros.
 -- Assumes nothing.
 use Rattle.vector_lines.proofs.Reading.{filled}
-use Rattle.vector_lines.specs.Spelled.{octetsIn}
 use borrow.Author.Needs.{needs}
 use Rattle.vector_lines.proofs.fields.key.Statement.{statement}
 use Rattle.vector_lines.proofs.fields.key.Tie as tie
 
 returns : tie.Need-returns
-unfolding octetsIn
 returns c =
     let at-field = c .before .before .before in
     let g = at-field .before .before .args in
