@@ -1,1 +1,3 @@
+pub mod Returning
 pub mod Taken
+pub mod Unpacking

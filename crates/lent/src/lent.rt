@@ -1,12 +1,13 @@
 // Document 01, 'Managed numbers': the 32 numbers, between the list that the caller lends and the value that the module works on.
 use crate::packing::pack;
 use image::image_ok;
-use judging::Answer;
+use link::Outcome;
 use numbers::Numbers;
 ghost use mathlib.Core.Path.{_≡_};
 ghost use mathlib.Core.Bool.{cond};
 ghost use lib.ListN.{length};
 ghost use Rattle.image.specs.Image.{validImage};
+ghost use Rattle.judging.specs.Answers.{reported};
 ghost use Rattle.lent.specs.Word.{word};
 
 pub fn numbers_in(lent: &[u32]) -> Numbers
@@ -23,7 +24,7 @@ pub fn numbers_in(lent: &[u32]) -> Numbers
 }
 
 // Only a number that differs is stored, so a refused call, which hands the numbers back as they were, writes none.
-pub fn hand_back(numbers: Numbers, lent: &mut [u32])
+fn hand_back(numbers: Numbers, lent: &mut [u32])
     requires { ⌜ length (now lent) ≡ 32 ⌝ }
     ensures { λ _. ⌜ now (lent .exit) ≡ numbers .last ⌝ }
 {
@@ -37,12 +38,22 @@ pub fn hand_back(numbers: Numbers, lent: &mut [u32])
     }
 }
 
-// The answer where the numbers are not 32: they agree with no image.
-pub fn refuse_count(image: &[u8]) -> u64
-    ensures { λ r. ⌜ r ≡ word (cond (validImage (now (image .entry))) 2 1) 0 0 ⌝ }
+// What a call that was made returns: the numbers go back to their list, and the answer into one number.
+pub fn returned(outcome: Outcome, lent: &mut [u32]) -> u64
+    requires { ⌜ length (now lent) ≡ 32 ⌝ }
+    ensures { λ r. ⌜ (r ≡ word (reported (outcome .answer) .number) (reported (outcome .answer) .length) (reported (outcome .answer) .stores)) × (now (lent .exit) ≡ outcome .numbers .last) ⌝ }
+{
+    let answer = outcome.answer;
+    hand_back(outcome.numbers, lent);
+    pack(answer)
+}
+
+// The number of the answer where the numbers are not 32: they agree with no image.
+pub fn count_answer(image: &[u8]) -> u8
+    ensures { λ r. ⌜ r ≡ cond (validImage (now (image .entry))) 2 1 ⌝ }
 {
     if image_ok(image) {
-        return pack(Answer::BadMarks);
+        return 2;
     }
-    pack(Answer::BadImage)
+    1
 }

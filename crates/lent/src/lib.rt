@@ -2,7 +2,14 @@
 mod lent;
 mod packing;
 
-pub use lent::hand_back;
+pub use lent::count_answer;
 pub use lent::numbers_in;
-pub use lent::refuse_count;
-pub use packing::pack;
+pub use lent::returned;
+use notes::Notes;
+pub use packing::word;
+
+// The number that a call with notes returns, and the notes as it leaves them.
+pub struct NotedWord {
+    pub word: u64,
+    pub notes: Notes,
+}

@@ -5,7 +5,7 @@ ghost use mathlib.Core.Path.{_≡_};
 ghost use Rattle.judging.specs.Answers.{reported};
 ghost use Rattle.lent.specs.Word.{word};
 
-fn word(number: u8, length: usize, stores: u32) -> u64
+pub fn word(number: u8, length: usize, stores: u32) -> u64
     ensures { λ r. ⌜ r ≡ word number length stores ⌝ }
 {
     (number as u64) * 1099511627776
@@ -13,7 +13,7 @@ fn word(number: u8, length: usize, stores: u32) -> u64
         + (length as u64) % 4294967296
 }
 
-pub fn pack(answer: Answer) -> u64
+pub(crate) fn pack(answer: Answer) -> u64
     ensures { λ r. ⌜ r ≡ word (reported answer .number) (reported answer .length) (reported answer .stores) ⌝ }
 {
     let told = report_of(answer);

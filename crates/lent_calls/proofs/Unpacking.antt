@@ -1,30 +1,13 @@
--- Nothing is lost in the number that a call returns: what is reported is at most 2,048 octets long and at most 16 stores, so answer, stores
--- and length can be taken out of the number again.
+-- Nothing is lost in the number that a load or a sending returns.
 -- Assumes nothing.
 use Prim.Native.Nat.{ℕ}
-use mathlib.Core.Bool.{cond}
 use mathlib.Core.List.{List, []}
-use lib.Dec.{eqb}
-use lib.ListN.{length}
-use Rattle.image.specs.Image.{validImage}
-use Rattle.lent.proofs.Taken.{answer-taken, stores-taken, length-taken}
-use Rattle.link.specs.Calls.{Left, loaded, secured}
+use Rattle.link.specs.Calls.{loaded, secured}
+use Rattle.link.proofs.Small.{loaded-small, secured-small}
 use Rattle.judging.specs.Said.{Said}
-use Rattle.link.proofs.Small.{Small, small-refused, small-either, loaded-small, secured-small}
-use Rattle.lent_calls.specs.Interface.{counted, loadCall, secureCall, Unpacked}
-
-pub unpacked : (x : Left) → Small x → Unpacked x
-unpacked x s =
-    record {
-      answer = answer-taken (x .answer) (x .length) (x .stores) (s .short) (s .few);
-      stores = stores-taken (x .answer) (x .length) (x .stores) (s .short) (s .few);
-      length = length-taken (x .answer) (x .length) (x .stores) (s .short) (s .few);
-    }
-
-pub unpacked-counted : (image numbers output : List ℕ) (call : Left) → Small call → Unpacked (counted image numbers output call)
-unpacked-counted image numbers output call s =
-    unpacked (counted image numbers output call)
-    (small-either (eqb (length numbers) 32) s (small-refused (cond (validImage image) 2 1) image numbers output))
+use Rattle.lent.specs.Interface.{Unpacked}
+use Rattle.lent.proofs.Unpacking.{unpacked-counted}
+use Rattle.lent_calls.specs.LentCalls.{loadCall, secureCall}
 
 pub load-unpacked : (image numbers : List ℕ) → Unpacked (loadCall image numbers)
 unfolding loadCall

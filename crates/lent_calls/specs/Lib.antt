@@ -1,1 +1,1 @@
-pub mod Interface
+pub mod LentCalls

@@ -1,20 +1,23 @@
 // The link security module for C: include/xistalvo.h declares these functions. A slice passes as a pointer and a count of its elements. Each
-// function is one of crate `lent_calls` or `noted_calls`, or the cut of crate `numbers`, over lists that the caller lends: nothing is kept between calls.
+// function is one of crate `lent_calls`, `lent_checks` or `lent_commands`, or the cut of crate `numbers`, over lists that the caller lends: nothing
+// is kept between calls.
 // The notes, reports and log, are a struct that the caller lends by `&mut` (document 01, 'Matching forms to places'): the function copies
 // them out, calls the one that does the work by value, and stores what that returns, the last thing that it does.
-use lent_calls::command_cut_lent;
 use lent_calls::load_lent;
 use lent_calls::secure_lent;
-use noted_calls::check_noted;
-use noted_calls::command_noted;
-use noted_calls::ground_check_noted;
+use lent_checks::check_noted;
+use lent_checks::ground_check_noted;
+use lent_commands::command_cut_lent;
+use lent_commands::command_noted;
 use notes::Notes;
 use word_tables::word_tables;
 ghost use mathlib.Core.List.{[]};
 ghost use mathlib.Core.Path.{_≡_};
 ghost use Rattle.numbers.specs.Stores.{storesMade, afterStores};
-ghost use Rattle.lent_calls.specs.Interface.{Returned, told, loadCall, secureCall, CutShort};
-ghost use Rattle.noted_calls.specs.NotedCalls.{Checks, Commands};
+ghost use Rattle.lent.specs.Interface.{Returned, told};
+ghost use Rattle.lent_calls.specs.LentCalls.{loadCall, secureCall};
+ghost use Rattle.lent_checks.specs.LentChecks.{Checks};
+ghost use Rattle.lent_commands.specs.LentCommands.{Commands, CutShort};
 ghost use Rattle.notes.specs.Noting.{freshNotes};
 
 // Notes with no event and no alarm, over those that are lent.

@@ -1,0 +1,2 @@
+mod Unread
+pub mod Unpacking
