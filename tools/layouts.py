@@ -1028,9 +1028,8 @@ def layers():
         "witnesses": (538, 15, 172, FREE, "not empty: 11 crates"),
     }
     programs = {
-        "listing_cases": (12, "runs listing_text"),
-        "salvage_cases": (11, "runs salvage's crates"),
-        "link_cases": (10, "runs the calls"),
+        "listing_cases": (11, "runs listing_text"),
+        "salvage_cases": (10, "runs salvage's crates"),
         "gcm_vectors": (8, "runs gcm"),
         "gcm_entries": (7, "an entry of its vectors"),
         "cmac_vectors": (6, "runs cmac"),
