@@ -2,8 +2,9 @@
 """Makes tests/link_cases/calls.txt, calls of the module, and tests/link_cases/answers.txt, what is expected to come back and to change.
 
 All of it is read off document 01, and requests 1, 2, 4, 5, 6, 9 and 10 of document 02, here, over whole numbers and strings of octets, and not
-off the code; AES is OpenSSL's. Each call below states the answer that the paper gives it, and the reading is held to that as well.
-tests/link_cases.c makes the calls through the C interface, and tests/run compares:
+off the code; AES is OpenSSL's. Of request 11 there are the three commands about notes, which are fresh in each call. Each call below states the
+answer that the paper gives it, and the reading is held to that as well. tests/link_cases.c makes the calls through the C interface, and tests/run
+compares:
 
   python3 tools/link_cases.py        (needs the Python package `cryptography`)
 """
@@ -456,7 +457,9 @@ ACTIVATION, DEACTIVATION, INVENTORY = 0b00000010, 0b00000011, 0b00000111
 VALUES = {STOP: 2, REKEY: 16, EXPIRE: 2, SET_NUMBER: 14, SET_WINDOW: 4, STATUS: 2, READ_NUMBER: 2, PING: 0}
 VALUES |= {ACTIVATION: 2, DEACTIVATION: 2, INVENTORY: 4}
 OF_KEYS = (ACTIVATION, DEACTIVATION, INVENTORY)
-OF_NOTES = (0b00110011, 0b00110100, 0b00110111)  # dump, erase and alarm reset, request 11: not tried here
+DUMP, ERASE, ALARM_RESET = 0b00110011, 0b00110100, 0b00110111
+VALUES |= {DUMP: 0, ERASE: 0, ALARM_RESET: 0}
+FOR_OFFICE = (*OF_KEYS, DUMP, ERASE)
 STATES = {START: {1}, STOP: {2}, EXPIRE: {1}, REKEY: {0}, SET_WINDOW: {0, 1}}
 GOES_TO = {START: 2, STOP: 1, EXPIRE: 0, REKEY: 1}
 
@@ -523,13 +526,16 @@ def managing(image, numbers, desk, octets, room):
         return 1
     if disagrees(entries, numbers):
         return 2
-    if desk > 2 or (desk != OFFICE and octets[:1] and octets[0] in OF_KEYS):
+    if desk > 2 or (desk != OFFICE and octets[:1] and octets[0] in FOR_OFFICE):
         return 19
     if not has_form(octets):
         return 13
     tag, value = octets[0], octets[3:]
-    if tag == PING:
-        return 6 if room < 3 else Done(tlv(tag | 128))
+    if tag == ALARM_RESET:
+        return Done()
+    if tag in (PING, DUMP, ERASE):
+        reply = tlv(tag | 128, two(0) + two(3 * 256) if tag == ERASE else b"")
+        return 6 if room < len(reply) else Done(reply)
     if tag in OF_KEYS:
         return managing_keys(image, entries, tag, value, room)
     found = [i for i, e in enumerate(entries) if e.spi == int.from_bytes(value[:2], "big") and sees(desk, e)]
@@ -1340,7 +1346,7 @@ def command_forms(run):
         run.manage(tlv(tag, SPI_9 + bytes(size)), 13)
     run.case("13: every tag that is none, replies' among them, with an SPI and without")
     for tag in range(256):
-        if tag not in VALUES and tag not in (START, *OF_NOTES):
+        if tag not in VALUES and tag != START:
             run.manage(tlv(tag, SPI_9), 13)
             run.manage(tlv(tag), 13)
     run.case("14: an SPI that is not in the table; there are three, of any direction and state, and each is found")
@@ -1991,6 +1997,18 @@ def longest(run):
             run.check(kind, sent, 0)
 
 
+def note_commands(run):
+    run.case("fresh notes: a dump of no event, an erase that leaves none and room for 256, an alarm reset; a value gives 13")
+    run.fresh(B)
+    for tag, size in ((DUMP, 3), (ERASE, 7), (ALARM_RESET, 0)):
+        for desk in DESKS:
+            may = desk == OFFICE or (desk <= 2 and tag == ALARM_RESET)
+            run.manage(tlv(tag), 0 if may else 19, room=size, desk=desk)
+            run.manage(tlv(tag, SPI_9), 13 if may else 19, room=size, desk=desk)
+        if size:
+            run.manage(tlv(tag), 6, room=size - 1)
+
+
 def main():
     run, rng = Module(), random.Random(1)
     for run.desk in (1, OFFICE):
@@ -2028,6 +2046,7 @@ def main():
     guest_link(run)
     sends_in_a_row(run)
     longest(run)
+    note_commands(run)
     here = os.path.join(os.path.dirname(os.path.abspath(__file__)), "..", "tests", "link_cases")
     for name, lines in (("calls.txt", run.lines), ("answers.txt", run.expected)):
         with open(os.path.join(here, name), "w") as file:
