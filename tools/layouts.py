@@ -873,7 +873,7 @@ NOTES = {
     "notes": (24, 2, 200, TRAILER, "both, as a caller has them"),
     "note_commands": (24, 3, 466, DATA, "dump, erase and alarm reset"),
     "noting": (24, 4, 686, DATA, "a check and a command, and what each tells the notes"),
-    "noted_calls": (24, 6, 160, FREE, "these, for C"),
+    "lent": (24, 6, 160, FREE, "for C: three crates"),
     "noted_promises": (212, 6, 330, FREE, "theorems alone"),
     "noted_desks": (212, 7, 498, FREE, "theorems on two runs side by side"),
     "secrecy": (24, 7, 184, FREE, "theorems on secrets"),
@@ -887,6 +887,7 @@ TOGETHER = {
     },
     "word_cipher": {"word_rounds", "word_cipher"},
     "cmac": {"subkeys", "message_blocks", "cmac"},
+    "lent": {"lent", "lent_checks", "lent_commands"},
 }
 
 
@@ -897,6 +898,9 @@ def beside(p, own, module, arrows, bent):
     high, pitch, boxes = 48, 76, {**own, **module}
     most = max(row for _, row, _, _, _ in boxes.values())
     needed = stands_on()
+    for box, crates in TOGETHER.items():
+        if box in own:
+            needed[box] = set().union(*(needed[name] for name in crates)) - crates
     drawn = arrows + [(above, below, x) for above, below, x, _ in bent]
     for name in own:
         below = everything_below(name, drawn)
@@ -942,10 +946,10 @@ def management():
         "verdicts": (24, 2, 172, DATA, "tests under an entry"),
         "link": (24, 3, 80, DATA, "calls; load"),
         "promises": (24, 7, 172, FREE, "theorems alone"),
-        "lent_calls": (372, 8, 338, FREE, "the calls over what C lends"),
+        "noting": (372, 8, 338, DATA, "with notes; on it, the interface for C"),
     }
     arrows = [
-        ("desks", "command_promises", 194), ("command_promises", "promises", 110), ("command_promises", "commands", 284), ("lent_calls", "commands", 541),
+        ("desks", "command_promises", 194), ("command_promises", "promises", 110), ("command_promises", "commands", 284), ("noting", "commands", 541),
         ("commands", "deciding", 394), ("commands", "addressing", 649), ("deciding", "conditions", 169), ("deciding", "plans", 284),
         ("deciding", "replies", 392), ("deciding", "key_conditions", 515), ("conditions", "verdicts", 150), ("conditions", "procedures", 215),
         ("plans", "procedures", 284), ("replies", "procedures", 392), ("key_conditions", "procedures", 515), ("addressing", "procedures", 641), ("addressing", "judging", 702),
@@ -962,14 +966,13 @@ def noting():
         "link": (370, 2, 120, DATA, "the calls; load"),
         "checking": (498, 3, 100, DATA, "check"),
         "commands": (606, 3, 104, DATA, "command"),
-        "lent_calls": (24, 5, 128, FREE, "the others"),
         "promises": (198, 5, 190, FREE, "theorems alone"),
         "command_promises": (404, 5, 306, FREE, "theorems alone"),
         "desks": (556, 6, 154, FREE, "of two runs"),
     }
     arrows = [
         ("noted_desks", "noted_promises", 377), ("noted_desks", "desks", 633), ("noted_promises", "noting", 396),
-        ("noted_promises", "command_promises", 471), ("desks", "command_promises", 633), ("noted_calls", "lent_calls", 88), ("noted_calls", "noting", 178),
+        ("noted_promises", "command_promises", 471), ("desks", "command_promises", 633), ("lent", "noting", 104),
         ("noting", "note_commands", 257), ("noting", "checking", 548), ("noting", "commands", 658), ("note_commands", "notes", 124),
         ("note_commands", "command_form", 297), ("note_commands", "link", 430), ("notes", "reports", 72), ("notes", "event_log", 176),
         ("reports", "octets", 72), ("event_log", "octets", 176), ("secrecy", "noting", 191), ("secrecy", "promises", 205),
@@ -1017,13 +1020,12 @@ def layers():
         "opening": (182, 12, 150, DATA, "it is read"),
         "judging": (340, 12, 370, DATA, "the tests of a call, in their order"),
         "verdicts": (24, 13, 340, DATA, "the tests under an entry"),
-        "admission": (372, 13, 92, DATA, "those before"),
-        "lent": (470, 13, 60, FREE, "for C"),
+        "admission": (372, 13, 158, DATA, "those before"),
         "link": (538, 13, 172, DATA, "the calls; load"),
         "securing": (24, 14, 226, DATA, "secure, carried out"),
         "checking": (258, 14, 226, DATA, "check, carried out"),
         "promises": (538, 14, 172, FREE, "theorems alone"),
-        "lent_calls": (24, 15, 506, FREE, "the calls over what C lends"),
+        "lent_calls": (24, 15, 506, FREE, "load and sending over what C lends"),
         "link_c": (24, 16, 506, FREE, "the C interface"),
         "witnesses": (538, 15, 172, FREE, "not empty: 11 crates"),
     }
@@ -1040,9 +1042,9 @@ def layers():
         "lines": (1, "lines of text for them"),
     }
     arrows = [
-        ("witnesses", "promises", 624), ("promises", "link", 624), ("link_c", "lent_calls", 277), ("lent_calls", "securing", 137), ("lent_calls", "lent", 505),
+        ("witnesses", "promises", 624), ("promises", "link", 624), ("link_c", "lent_calls", 277), ("lent_calls", "securing", 137),
         ("securing", "verdicts", 137), ("checking", "verdicts", 310), ("checking", "admission", 420), ("link", "judging", 624),
-        ("lent", "judging", 500), ("admission", "judging", 417), ("verdicts", "judging", 352), ("verdicts", "sealing", 99),
+        ("admission", "judging", 417), ("verdicts", "judging", 352), ("verdicts", "sealing", 99),
         ("verdicts", "opening", 257), ("judging", "protection", 525), ("sealing", "security_header", 99),
         ("opening", "security_header", 257), ("security_header", "services", 184), ("protection", "services", 388), ("protection", "masking", 437), ("services", "cmac", 80), ("services", "gcm", 244),
         ("association", "numbers", 616), ("numbers", "image", 616), ("image", "keys", 616), ("keys", "bodies", 616), ("bodies", "kinds", 555),
@@ -1064,9 +1066,10 @@ def layers():
         needed[box] = set().union(*(needed.pop(name) for name in crates)) - crates
     apart = set(MANAGEMENT) | set(NOTES)
     assert set(needed) == set(boxes) | set(programs) | set(GROUND) | apart, "crates.txt has other crates"
+    elsewhere = apart.union(*(TOGETHER[box] for box in apart if box in TOGETHER))
     drawn = arrows + [(above, below, x) for above, below, x, _ in bent]
     for name in boxes:
-        assert needed[name] - apart <= everything_below(name, drawn), f"an arrow is missing: {name}"
+        assert needed[name] - elsewhere <= everything_below(name, drawn), f"an arrow is missing: {name}"
         direct = {below for above, below, _ in drawn if above == name}
         assert direct <= needed[name], f"an arrow too many: {name}"
 

@@ -12,7 +12,7 @@ const KEY: [u8; 32] = *b"\
     \x10\x11\x12\x13\x14\x15\x16\x17\x18\x19\x1a\x1b\x1c\x1d\x1e\x1f";
 
 fn print_line(octets: &[u8]) {
-    print_octets(b"", octets);
+    print_octets(octets);
     print(b"\n");
 }
 

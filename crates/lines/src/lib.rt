@@ -15,5 +15,4 @@ pub use hexadecimal::read_octets;
 pub use input::read_line;
 pub use output::print;
 pub use output::print_number;
-pub use output::print_octet;
 pub use output::print_octets;

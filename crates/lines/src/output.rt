@@ -11,17 +11,15 @@ pub fn print_number(text: &[u8], n: u64) {
     io::print_decimal(STDOUT_FILENO, n);
 }
 
-// A text and an octet in hexadecimal behind it.
-pub fn print_octet(text: &[u8], octet: u8) {
-    print(text);
+fn print_octet(octet: u8) {
     io::print_hex(STDOUT_FILENO, octet as u64, 2);
 }
 
-// Each octet likewise.
-pub fn print_octets(text: &[u8], octets: &[u8]) {
+// Octets in hexadecimal, one behind the other.
+pub fn print_octets(octets: &[u8]) {
     let mut i: usize = 0;
     while i < octets.len() {
-        print_octet(text, octets[i]);
+        print_octet(octets[i]);
         i += 1;
     }
 }

@@ -22,7 +22,7 @@ fn print_lines(damaged: &[u8]) {
 fn print_image(damaged: &[u8]) {
     let mut image = [0u8; LONGEST_SALVAGED];
     let salvaged = write_image(damaged, &mut image);
-    print_octets(b"", text_in(salvaged, &image));
+    print_octets(text_in(salvaged, &image));
     print(b"\n");
 }
 

@@ -7,10 +7,10 @@ use Rattle.lines.proofs.output.print_octets.Statement.{statement}
 use Rattle.lines.proofs.output.print_octets.Tie as tie
 
 abbrev Inv-loop : tie.InvT-loop
-Inv-loop text octets i₀ i = i ≤ length octets
+Inv-loop octets i₀ i = i ≤ length octets
 
 abbrev μ-loop : tie.MeasureT-loop
-μ-loop text octets i₀ i = length octets - i
+μ-loop octets i₀ i = length octets - i
 
 pub print-octets-spec : {M : Type 1} → statement M
 print-octets-spec =
