@@ -3,6 +3,7 @@
 // is kept between calls.
 // The notes, reports and log, are a struct that the caller lends by `&mut` (document 01, 'Matching forms to places'): the function copies
 // them out, calls the one that does the work by value, and stores what that returns, the last thing that it does.
+use lent_calls::ground_secure_lent;
 use lent_calls::load_lent;
 use lent_calls::secure_lent;
 use lent_checks::check_noted;
@@ -10,7 +11,6 @@ use lent_checks::ground_check_noted;
 use lent_commands::command_cut_lent;
 use lent_commands::command_noted;
 use notes::Notes;
-use word_tables::word_tables;
 ghost use mathlib.Core.List.{[]};
 ghost use mathlib.Core.Path.{_≡_};
 ghost use Rattle.numbers.specs.Stores.{storesMade, afterStores};
@@ -51,10 +51,10 @@ pub extern "C" fn xistalvo_secure(
 ) -> u64
     ensures { λ r. ⌜ Returned (secureCall (now (image .entry)) (now (numbers .entry)) (told desk kind field) spi (now (frame .entry)) (now (output .entry))) r (now (image .exit)) (now (numbers .exit)) (now (output .exit)) ⌝ }
 {
-    secure_lent(&[], image, numbers, desk, kind, field, spi, frame, output)
+    secure_lent(image, numbers, desk, kind, field, spi, frame, output)
 }
 
-// The same at a ground station, by tables of 4,096 octets, which lie on this call's stack and in no other's.
+// The same at a ground station.
 #[no_mangle]
 pub extern "C" fn xistalvo_ground_secure(
     image: &mut [u8],
@@ -68,18 +68,7 @@ pub extern "C" fn xistalvo_ground_secure(
 ) -> u64
     ensures { λ r. ⌜ Returned (secureCall (now (image .entry)) (now (numbers .entry)) (told desk kind field) spi (now (frame .entry)) (now (output .entry))) r (now (image .exit)) (now (numbers .exit)) (now (output .exit)) ⌝ }
 {
-    let tables = word_tables();
-    secure_lent(
-        &tables,
-        image,
-        numbers,
-        desk,
-        kind,
-        field,
-        spi,
-        frame,
-        output,
-    )
+    ground_secure_lent(image, numbers, desk, kind, field, spi, frame, output)
 }
 
 // The clear data of a secured frame, to the front of the output.
