@@ -48,12 +48,17 @@ pub fn returned(outcome: Outcome, lent: &mut [u32]) -> u64
     pack(answer)
 }
 
+// Two numbers of document 01's table, 'What comes back'.
+const BAD_IMAGE: u8 = 1;
+
+const BAD_MARKS: u8 = 2;
+
 // The number of the answer where the numbers are not 32: they agree with no image.
 pub fn count_answer(image: &[u8]) -> u8
     ensures { λ r. ⌜ r ≡ cond (validImage (now (image .entry))) 2 1 ⌝ }
 {
     if image_ok(image) {
-        return 2;
+        return BAD_MARKS;
     }
-    1
+    BAD_IMAGE
 }
