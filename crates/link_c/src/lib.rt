@@ -114,7 +114,7 @@ pub extern "C" fn xistalvo_ground_check(
     frame: &[u8],
     output: &mut [u8],
 ) -> u64
-    ensures { λ r. ⌜ Checks (now (notes .entry)) (now (events .entry)) (now (image .entry)) (now (numbers .entry)) desk kind field (now (frame .entry)) (now (output .entry)) r (now (notes .exit)) (now (events .exit)) (now (image .exit)) (now (numbers .exit)) (now (output .exit)) ⌝ }
+    ensures { λ word. ⌜ Checks (now (notes .entry)) (now (events .entry)) (now (image .entry)) (now (numbers .entry)) desk kind field (now (frame .entry)) (now (output .entry)) word (now (notes .exit)) (now (events .exit)) (now (image .exit)) (now (numbers .exit)) (now (output .exit)) ⌝ }
 {
     let found = ground_check_noted(
         *notes,

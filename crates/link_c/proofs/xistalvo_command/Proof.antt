@@ -17,8 +17,8 @@ use contract.Lifetimes.{Lfts, Shares, toks}
 use contract.Monad.{Fun}
 use contract.Running.{givenOf, tables, tablesOf}
 use types.Kit.{Given, ‵, raw, _⊛_, _$_, _∵_, !, qed, by, move, keep, drop, use2, split, rewrite, fsplit, fsplit3}
-use types.Run.{look, look-raw, init, store-raw, forget, stop, hop, fld, from, load, addr, and-then, no-more, of-opd, assigns, land, returns}
-use types.Run.{enter, alloc1, alloc0, params1, pass1, pass0, free1, free0}
+use types.Run.{look, look-raw, init, store-raw, stop, hop, fld, from, load, addr, and-then, no-more, of-opd, assigns, land, returns}
+use types.Run.{enter, params1, pass1, pass0}
 use types.Part.{agg, whole, sub, look-in}
 use sound.WpLaws.{FmC, fmOf, WpFn-mono}
 use denote.RattleType.{Denots, Valss, owns, flat}
@@ -44,7 +44,8 @@ use Rattle.lent_commands.proofs.command_noted as core
 use Rattle.lent_commands.proofs.command_noted.Symbol as core-def
 use Rattle.lent_commands.proofs.command_noted.Symbol.{name as #core}
 use Rattle.lent_commands.proofs.command_noted.Met as core-thm
-use Rattle.link_c.proofs.Lending.{takes, gives, others, Post, ends, meets, to-work, begins, returned}
+use Rattle.lent.proofs.Locals.{locals, frees-all}
+use Rattle.lent.proofs.Lending.{takes, gives, others, Post, ends, meets, to-work, begins, returned}
 use Rattle.link_c.proofs.xistalvo_command.Key.{name as #this}
 use Rattle.link_c.proofs.xistalvo_command as this
 use Rattle.link_c.proofs.xistalvo_command.Statement as stated
@@ -100,75 +101,64 @@ module _ {M : Type 1} (𝓤 : URA M) (H : Heap 𝓤) (A : Atoms 𝓤) (W : Given
       qed W
       ((‵ (flft (κs .0) (qs .0)) ⊛ raw (toks 𝓤 A 5 (κs .1) (qs .1))) ∷ ‵ (owns (typesAt (this.signature .params) κs) (x, a) (ptr-vals x, at)) ∷ []) ∵
       enter ! C Λ code.function passed _ $
-      alloc1 ! (λ l₀. alloc1 ! (λ l₁. alloc1 ! (λ l₂. alloc1 ! (λ l₃. alloc1 ! (λ l₄. alloc1 ! (λ l₅. alloc1 ! (λ l₆. alloc1 ! (λ l₇.
-      alloc1 ! (λ l₈. alloc1 ! (λ l₉. alloc1 ! (λ l₁₀. alloc1 ! (λ l₁₁. alloc1 ! (λ l₁₂. alloc1 ! (λ l₁₃. alloc1 ! (λ l₁₄. alloc1 ! (λ l₁₅.
-      alloc1 ! (λ l₁₆. alloc1 ! (λ l₁₇.
-      alloc0 ! $ params1 ! $
-      pass1 ! (init ! 32 refl (tt, tt)) $
-      pass1 ! (init ! 30 refl (tt, (tt, (record { fits = are .0 .0 .1 .0 }, tt)))) $
-      pass1 ! (init ! 28 refl (tt, (tt, (record { fits = are .1 .0 .0 .1 .0 }, tt)))) $
-      pass1 ! (init ! 26 refl (tt, (tt, (record { fits = are .1 .1 .0 .0 .1 .0 }, tt)))) $
-      pass1 ! (init ! 24 refl (tt, record { fits = are .1 .1 .1 .0 .1 })) $
-      pass1 ! (init ! 22 refl (tt, (tt, (record { fits = are .1 .1 .1 .1 .0 .0 .1 .0 }, tt)))) $
-      pass1 ! (init ! 20 refl (tt, (tt, (record { fits = are .1 .1 .1 .1 .1 .0 .0 .1 .0 }, tt)))) $
-      pass0 ! $ move ! (37 ∷ []) $ fsplit ! $ fsplit3 ! $ drop ! $ move ! (39 ∷ []) $ split ! $ move ! (2 ∷ 3 ∷ 0 ∷ []) $
-      -- [what is seen of the notes; their borrow; its token; the other tokens; what the other parameters own; _17; …; _0; …]
+      locals ! (λ places. params1 ! $
+      pass1 ! (init ! 17 refl (tt, tt)) $
+      pass1 ! (init ! 16 refl (tt, (tt, (record { fits = are .0 .0 .1 .0 }, tt)))) $
+      pass1 ! (init ! 15 refl (tt, (tt, (record { fits = are .1 .0 .0 .1 .0 }, tt)))) $
+      pass1 ! (init ! 14 refl (tt, (tt, (record { fits = are .1 .1 .0 .0 .1 .0 }, tt)))) $
+      pass1 ! (init ! 13 refl (tt, record { fits = are .1 .1 .1 .0 .1 })) $
+      pass1 ! (init ! 12 refl (tt, (tt, (record { fits = are .1 .1 .1 .1 .0 .0 .1 .0 }, tt)))) $
+      pass1 ! (init ! 11 refl (tt, (tt, (record { fits = are .1 .1 .1 .1 .1 .0 .0 .1 .0 }, tt)))) $
+      pass0 ! $ move ! (20 ∷ []) $ fsplit ! $ fsplit3 ! $ drop ! $ move ! (22 ∷ []) $ split ! $ move ! (2 ∷ 3 ∷ 0 ∷ []) $
+      -- [what is seen of the notes; their borrow; its token; the other tokens; what the other parameters own; the right to free; _17; …; _0]
       takes ! tt x (λ was.
-      -- [the notes; the open borrow; what is seen; what is said; the other tokens; what the other parameters own; _17; …]
-      assigns ! (of-opd ! (load ! (from ! (hop ! (look ! 38 refl) (stop !))) (look-raw ! 0 refl))) (from ! (stop !))
-      (init ! 22 refl (LL.lawful T.the-type T′.the-laws 𝓤 H A W .typed (x .now) _ was .0)) $
-      assigns ! (addr ! (from ! (fld ! refl (hop ! (look-in ! 36 (sub ! 0 refl (whole !))) (stop !))))) (from ! (stop !)) (init ! 20 refl (tt, tt)) $
-      assigns ! (agg ! (and-then ! (load ! (from ! (stop !)) (look ! 20 refl))
-      (and-then ! (load ! (from ! (fld ! refl (stop !))) (look-in ! 36 (sub ! 1 refl (whole !)))) (no-more !)))) (from ! (stop !))
-      (init ! 18 refl (tt, (tt, (record { fits = are .0 .0 .1 .0 }, tt)))) $
-      assigns ! (addr ! (from ! (fld ! refl (hop ! (look-in ! 34 (sub ! 0 refl (whole !))) (stop !))))) (from ! (stop !)) (init ! 16 refl (tt, tt)) $
-      assigns ! (agg ! (and-then ! (load ! (from ! (stop !)) (look ! 16 refl))
-      (and-then ! (load ! (from ! (fld ! refl (stop !))) (look-in ! 34 (sub ! 1 refl (whole !)))) (no-more !)))) (from ! (stop !))
-      (init ! 14 refl (tt, (tt, (record { fits = are .1 .0 .0 .1 .0 }, tt)))) $
-      assigns ! (addr ! (from ! (fld ! refl (hop ! (look-in ! 32 (sub ! 0 refl (whole !))) (stop !))))) (from ! (stop !)) (init ! 12 refl (tt, tt)) $
+      -- [the notes; the open borrow; what is seen; what is said; the other tokens; what the other parameters own; the right to free; _17; …]
+      assigns ! (of-opd ! (load ! (from ! (hop ! (look ! 23 refl) (stop !))) (look-raw ! 0 refl))) (from ! (stop !))
+      (init ! 15 refl (LL.lawful T.the-type T′.the-laws 𝓤 H A W .typed (x .now) _ was .0)) $
+      assigns ! (addr ! (from ! (fld ! refl (hop ! (look-in ! 22 (sub ! 0 refl (whole !))) (stop !))))) (from ! (stop !)) (init ! 14 refl (tt, tt)) $
+      assigns ! (agg ! (and-then ! (load ! (from ! (stop !)) (look ! 14 refl))
+      (and-then ! (load ! (from ! (fld ! refl (stop !))) (look-in ! 22 (sub ! 1 refl (whole !)))) (no-more !)))) (from ! (stop !))
+      (init ! 13 refl (tt, (tt, (record { fits = are .0 .0 .1 .0 }, tt)))) $
+      assigns ! (addr ! (from ! (fld ! refl (hop ! (look-in ! 21 (sub ! 0 refl (whole !))) (stop !))))) (from ! (stop !)) (init ! 12 refl (tt, tt)) $
       assigns ! (agg ! (and-then ! (load ! (from ! (stop !)) (look ! 12 refl))
-      (and-then ! (load ! (from ! (fld ! refl (stop !))) (look-in ! 32 (sub ! 1 refl (whole !)))) (no-more !)))) (from ! (stop !))
-      (init ! 10 refl (tt, (tt, (record { fits = are .1 .1 .0 .0 .1 .0 }, tt)))) $
-      assigns ! (addr ! (from ! (fld ! refl (hop ! (look-in ! 26 (sub ! 0 refl (whole !))) (stop !))))) (from ! (stop !)) (init ! 8 refl (tt, tt)) $
+      (and-then ! (load ! (from ! (fld ! refl (stop !))) (look-in ! 21 (sub ! 1 refl (whole !)))) (no-more !)))) (from ! (stop !))
+      (init ! 11 refl (tt, (tt, (record { fits = are .1 .0 .0 .1 .0 }, tt)))) $
+      assigns ! (addr ! (from ! (fld ! refl (hop ! (look-in ! 20 (sub ! 0 refl (whole !))) (stop !))))) (from ! (stop !)) (init ! 10 refl (tt, tt)) $
+      assigns ! (agg ! (and-then ! (load ! (from ! (stop !)) (look ! 10 refl))
+      (and-then ! (load ! (from ! (fld ! refl (stop !))) (look-in ! 20 (sub ! 1 refl (whole !)))) (no-more !)))) (from ! (stop !))
+      (init ! 9 refl (tt, (tt, (record { fits = are .1 .1 .0 .0 .1 .0 }, tt)))) $
+      assigns ! (addr ! (from ! (fld ! refl (hop ! (look-in ! 17 (sub ! 0 refl (whole !))) (stop !))))) (from ! (stop !)) (init ! 8 refl (tt, tt)) $
       assigns ! (agg ! (and-then ! (load ! (from ! (stop !)) (look ! 8 refl))
-      (and-then ! (load ! (from ! (fld ! refl (stop !))) (look-in ! 26 (sub ! 1 refl (whole !)))) (no-more !)))) (from ! (stop !))
-      (init ! 6 refl (tt, (tt, (record { fits = are .1 .1 .1 .1 .1 .0 .0 .1 .0 }, tt)))) $
+      (and-then ! (load ! (from ! (fld ! refl (stop !))) (look-in ! 17 (sub ! 1 refl (whole !)))) (no-more !)))) (from ! (stop !))
+      (init ! 7 refl (tt, (tt, (record { fits = are .1 .1 .1 .1 .1 .0 .0 .1 .0 }, tt)))) $
       move ! (4 ∷ 5 ∷ []) $
       use2 W (raw (Core 𝓤 H A at-mem run .pre to-core))
       (begins 5 (others (core.signature .params)) (core.ended .kept .1) O.the-row 𝓤 H A W (core.clauses 𝓤 H A at-mem run) (κs .1) (qs .1) (x .now) a at tt
       (id⊢ 𝓤 _) was) $
       calls-at ! fm (Core 𝓤 H A at-mem run) known to-core
-      (and-then ! (load ! (from ! (stop !)) (look ! 21 refl))
+      (and-then ! (load ! (from ! (stop !)) (look ! 14 refl))
+      (and-then ! (load ! (from ! (stop !)) (look ! 12 refl))
+      (and-then ! (load ! (from ! (stop !)) (look ! 10 refl))
+      (and-then ! (load ! (from ! (stop !)) (look ! 8 refl))
+      (and-then ! (load ! (from ! (stop !)) (look ! 18 refl))
       (and-then ! (load ! (from ! (stop !)) (look ! 17 refl))
-      (and-then ! (load ! (from ! (stop !)) (look ! 13 refl))
-      (and-then ! (load ! (from ! (stop !)) (look ! 9 refl))
-      (and-then ! (load ! (from ! (stop !)) (look ! 29 refl))
-      (and-then ! (load ! (from ! (stop !)) (look ! 27 refl))
-      (and-then ! (load ! (from ! (stop !)) (look ! 5 refl))
+      (and-then ! (load ! (from ! (stop !)) (look ! 6 refl))
       (no-more !)))))))) (λ v.
       returned 5 (others (core.signature .params)) (core.ended .kept .1) O.the-row 𝓤 H A W (core.clauses 𝓤 H A at-mem run) (κs .1) (qs .1) (x .now) a at tt
       ! tt v (λ r ws is.
-      -- [the other tokens; the last values; what is ensured; the notes; the open borrow; what is seen; what is said; _17; …]
-      land ! (from ! (stop !)) (init ! 25 refl (LL.lawful O.the-type O′.the-laws 𝓤 H A W .typed r _ is .0)) $
-      rewrite ! 25 (λ (u : Val). ‵ (fat fullShare O′.mir l₈ 0 u)) (ap only (LL.tells O.the-type O′.the-laws r _ is)) refl $
-      assigns ! (of-opd ! (load ! (from ! (fld ! refl (stop !))) (look-in ! 25 (sub ! 1 refl (whole !))))) (from ! (hop ! (look ! 39 refl) (stop !)))
+      -- [the other tokens; the last values; what is ensured; the notes; the open borrow; what is seen; what is said; the right to free; _17; …]
+      land ! (from ! (stop !)) (init ! 17 refl (LL.lawful O.the-type O′.the-laws 𝓤 H A W .typed r _ is .0)) $
+      rewrite ! 17 (λ (u : Val). ‵ (fat fullShare O′.mir (places .1 .1 .1 .1 .1 .1 .1 .1 .0) 0 u)) (ap only (LL.tells O.the-type O′.the-laws r _ is)) refl $
+      assigns ! (of-opd ! (load ! (from ! (fld ! refl (stop !))) (look-in ! 17 (sub ! 1 refl (whole !))))) (from ! (hop ! (look ! 24 refl) (stop !)))
       (store-raw ! 3 refl (LL.lawful T.the-type T′.the-laws 𝓤 H A W .typed (r .notes) _ (LL.owed O.the-type O′.the-laws r _ is .1 .0) .0)) $
-      assigns ! (of-opd ! (load ! (from ! (fld ! refl (stop !))) (look-in ! 25 (sub ! 0 refl (whole !))))) (from ! (stop !))
-      (init ! 41 refl (tt, record { fits = LL.owed O.the-type O′.the-laws r _ is .0 .1 })) $
+      assigns ! (of-opd ! (load ! (from ! (fld ! refl (stop !))) (look-in ! 17 (sub ! 0 refl (whole !))))) (from ! (stop !))
+      (init ! 25 refl (tt, record { fits = LL.owed O.the-type O′.the-laws r _ is .0 .1 })) $
       move ! (3 ∷ 4 ∷ 5 ∷ 6 ∷ []) $ gives ! tt x (r .notes) (LL.owed O.the-type O′.the-laws r _ is .1 .0) $
-      -- [what is seen; the borrow; its token; the other tokens; the last values; what is ensured; _17; …]
-      returns ! (look ! 40 refl) $
-      forget ! 6 refl $ forget ! 8 refl $ forget ! 10 refl $ forget ! 12 refl $ forget ! 14 refl $ forget ! 16 refl $ forget ! 18 refl $
-      forget ! 20 refl $ forget ! 22 refl $ forget ! 24 refl $ forget ! 26 refl $ forget ! 28 refl $ forget ! 30 refl $ forget ! 32 refl $
-      forget ! 34 refl $ forget ! 36 refl $ forget ! 38 refl $ forget ! 40 refl $
-      move ! (40 ∷ 41 ∷ []) $ free1 ! $ move ! (38 ∷ 39 ∷ []) $ free1 ! $ move ! (36 ∷ 37 ∷ []) $ free1 ! $ move ! (34 ∷ 35 ∷ []) $ free1 ! $
-      move ! (32 ∷ 33 ∷ []) $ free1 ! $ move ! (30 ∷ 31 ∷ []) $ free1 ! $ move ! (28 ∷ 29 ∷ []) $ free1 ! $ move ! (26 ∷ 27 ∷ []) $ free1 ! $
-      move ! (24 ∷ 25 ∷ []) $ free1 ! $ move ! (22 ∷ 23 ∷ []) $ free1 ! $ move ! (20 ∷ 21 ∷ []) $ free1 ! $ move ! (18 ∷ 19 ∷ []) $ free1 ! $
-      move ! (16 ∷ 17 ∷ []) $ free1 ! $ move ! (14 ∷ 15 ∷ []) $ free1 ! $ move ! (12 ∷ 13 ∷ []) $ free1 ! $ move ! (10 ∷ 11 ∷ []) $ free1 ! $
-      move ! (8 ∷ 9 ∷ []) $ free1 ! $ move ! (6 ∷ 7 ∷ []) $ free1 ! $
-      free0 ! $ keep ! (2 ∷ 3 ∷ 0 ∷ 1 ∷ 4 ∷ 5 ∷ []) $
+      -- [what is seen; the borrow; its token; the other tokens; the last values; what is ensured; the right to free; _17; …]
+      returns ! (look ! 24 refl) $
+      frees-all ! 6 _ refl $ keep ! (2 ∷ 3 ∷ 0 ∷ 1 ∷ 4 ∷ 5 ∷ []) $
       by ! (ends 5 Behind (this.ended .kept .1) (this.signature .result) 𝓤 H A W (this.clauses 𝓤 H A at-mem run) κs qs x a at tt
-      (vint w64 (r .word)) (r .word) (r .notes) ws (uint-makes 𝓤 H A W w64 (r .word) _ (refl, LL.owed O.the-type O′.the-laws r _ is .0 .1))))))))))))))))))))))))
+      (vint w64 (r .word)) (r .word) (r .notes) ws (uint-makes 𝓤 H A W w64 (r .word) _ (refl, LL.owed O.the-type O′.the-laws r _ is .0 .1)))))))
 
 proved : {M : Type 1} (𝓤 : URA M) (H : Heap 𝓤) (A : Atoms 𝓤) → Given 𝓤 H A → (at-mem : Memory → SProp 𝓤) (run : Routine → Fun 𝓤) (𝓣 : Tables 𝓤 H)
     → Triple 𝓤 (𝓣 .C #core) (Core 𝓤 H A at-mem run)

@@ -15,8 +15,8 @@ use contract.Lifetimes.{Lfts, Shares}
 use contract.Monad.{Fun}
 use contract.Running.{givenOf, tables, tablesOf}
 use types.Kit.{Given, ‵, raw, _⊛_, some, later, _$_, _∵_, !, qed, by, move, keep, drop, use1, split, pick, fsplit, fsplit3, join, frame, await, done}
-use types.Run.{look, init, store-raw, forget, stop, hop, from, load, unit-lit, no-more, of-opd, assigns, land, returns}
-use types.Run.{enter, alloc1, alloc0, params1, pass1, pass0, free1, free0}
+use types.Run.{look, init, store-raw, stop, hop, from, load, unit-lit, no-more, of-opd, assigns, land, returns}
+use types.Run.{enter, params1, pass1, pass0}
 use sound.WpLaws.{FmC, fmOf, WpFn-mono}
 use denote.RattleType.{owns}
 use denote.Laws.{Is, shows}
@@ -37,7 +37,8 @@ use Rattle.notes.proofs.Notes.fresh as core
 use Rattle.notes.proofs.Notes.fresh.Symbol as core-def
 use Rattle.notes.proofs.Notes.fresh.Symbol.{name as #fresh}
 use Rattle.notes.proofs.Notes.fresh.Met as core-thm
-use Rattle.link_c.proofs.Lending.{R, takes, gives, Post, ends, meets}
+use Rattle.lent.proofs.Locals.{locals, frees-all}
+use Rattle.lent.proofs.Lending.{R, takes, gives, Post, ends, meets}
 use Rattle.link_c.proofs.xistalvo_fresh_notes.Key.{name as #this}
 use Rattle.link_c.proofs.xistalvo_fresh_notes as this
 use Rattle.link_c.proofs.xistalvo_fresh_notes.Statement as stated
@@ -62,10 +63,10 @@ module _ {M : Type 1} (𝓤 : URA M) (H : Heap 𝓤) (A : Atoms 𝓤) (W : Given
       (WpFn 𝓤 H C Λ code.function (ptr-vals x) (Post 0 [] tt (this.signature .result) 𝓤 H A W (this.clauses 𝓤 H A at-mem run) κs qs x tt tt tt))
   walk =
       qed W ((‵ (flft (κs .0) (qs .0)) ⊛ ‵ ftrue) ∷ ‵ (owns (typesAt (this.signature .params) κs) (x, tt) (ptr-vals x, tt)) ∷ []) ∵
-      split ! $ move ! (2 ∷ []) $ fsplit ! $ fsplit3 ! $ drop ! $ move ! (0 ∷ 1 ∷ 3 ∷ []) $
-      -- [what is seen of the notes; their borrow; its token; true; true]
+      split ! $ move ! (2 ∷ []) $ fsplit ! $ fsplit3 ! $ drop ! $ keep ! (0 ∷ 1 ∷ 3 ∷ []) $
+      -- [what is seen of the notes; their borrow; its token]
       enter ! C Λ code.function (ptr-vals x) _ $
-      alloc1 ! (λ l₀. alloc1 ! (λ l₁. alloc1 ! (λ l₂. alloc0 ! $ params1 ! $ pass1 ! (init ! 2 refl (tt, tt)) $ pass0 ! $
+      locals ! (λ places. params1 ! $ pass1 ! (init ! 2 refl (tt, tt)) $ pass0 ! $
       nothing ! $ use1 W (raw (Core 𝓤 H A at-mem run .pre ((tt, tt, tt, tt, tt), tt))) begins $
       calls-at ! fm (Core 𝓤 H A at-mem run) known ((tt, tt, tt, tt, tt), tt) (no-more !) (λ v.
       use1 W (later (some (λ (r : Notes).
@@ -73,20 +74,19 @@ module _ {M : Type 1} (𝓤 : URA M) (H : Heap 𝓤) (A : Atoms 𝓤) (W : Given
       await ! tt $ pick ! (λ r. split ! $ move ! (1 ∷ []) $
       use1 W (raw (core.clauses 𝓤 H A at-mem run tt tt .ensures tt r tt)) (ensures r) $
       move ! (1 ∷ []) $ split ! $ move ! (1 ∷ []) $ peeks ! R (Is R) (shows 𝓤 H A R) r (v ∷ []) (λ is. drop ! $
-      -- [true; what is ensured; _2; …; _1; …; room for _0; …; what is seen; the borrow; its token; true; true]
-      land ! (from ! (stop !)) (init ! 2 refl (LL.lawful T.the-type T′.the-laws 𝓤 H A W .typed r _ is .0)) $
-      move ! (8 ∷ 9 ∷ 10 ∷ []) $ takes ! tt x (λ _.
-      -- [the notes; the open borrow; what is seen; what is said; true; what is ensured; _2; …; _1; …; room for _0; …]
-      assigns ! (of-opd ! (load ! (from ! (stop !)) (look ! 6 refl))) (from ! (hop ! (look ! 8 refl) (stop !)))
+      -- [true; what is ensured; the right to free; _2; _1; room for _0; what is seen; the borrow; its token]
+      land ! (from ! (stop !)) (init ! 3 refl (LL.lawful T.the-type T′.the-laws 𝓤 H A W .typed r _ is .0)) $
+      move ! (6 ∷ 7 ∷ 8 ∷ []) $ takes ! tt x (λ _.
+      -- [the notes; the open borrow; what is seen; what is said; true; what is ensured; the right to free; _2; _1; room for _0]
+      assigns ! (of-opd ! (load ! (from ! (stop !)) (look ! 7 refl))) (from ! (hop ! (look ! 8 refl) (stop !)))
       (store-raw ! 0 refl (LL.lawful T.the-type T′.the-laws 𝓤 H A W .typed r _ is .0)) $
-      assigns ! (of-opd ! (unit-lit !)) (from ! (stop !)) (init ! 10 refl (tt, tt)) $
+      assigns ! (of-opd ! (unit-lit !)) (from ! (stop !)) (init ! 9 refl (tt, tt)) $
       gives ! tt x r is $
-      -- [what is seen; the borrow; its token; true; what is ensured; _2; …; _1; …; _0; …]
-      returns ! (look ! 9 refl) $ forget ! 5 refl $ forget ! 7 refl $ forget ! 9 refl $
-      move ! (9 ∷ 10 ∷ []) $ free1 ! $ move ! (7 ∷ 8 ∷ []) $ free1 ! $ move ! (5 ∷ 6 ∷ []) $ free1 ! $ free0 ! $
+      -- [what is seen; the borrow; its token; true; what is ensured; the right to free; _2; _1; _0]
+      returns ! (look ! 8 refl) $ frees-all ! 5 _ refl $
       nothing ! $ keep ! (3 ∷ 4 ∷ 1 ∷ 2 ∷ 0 ∷ 5 ∷ []) $
       by ! (ends 0 [] tt (this.signature .result) 𝓤 H A W (this.clauses 𝓤 H A at-mem run) κs qs x tt tt tt vunit tt r tt
-      (guardI 𝓤 _ (emp 𝓤) refl)))))))))
+      (guardI 𝓤 _ (emp 𝓤) refl)))))))
 
 proved : {M : Type 1} (𝓤 : URA M) (H : Heap 𝓤) (A : Atoms 𝓤) → Given 𝓤 H A → (at-mem : Memory → SProp 𝓤) (run : Routine → Fun 𝓤) (𝓣 : Tables 𝓤 H)
     → Triple 𝓤 (𝓣 .C #fresh) (Core 𝓤 H A at-mem run)
