@@ -16,7 +16,7 @@ use octets::two_at;
 use procedures::{Called, Procedure, called_by, key_command};
 
 // The procedure that a command calls and the entry that it names, or the first refusal.
-#[derive(Drop)]
+#[derive(Clone, Copy)]
 pub enum Address {
     To(Procedure, u8),
     Refused(Answer),

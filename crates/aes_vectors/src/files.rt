@@ -4,7 +4,7 @@ use lines::read_line;
 use vector_lines::Tally;
 
 // What is tested of a line.
-#[derive(Drop)]
+#[derive(Clone, Copy)]
 pub(crate) enum Test {
     Word,
     Encryption,

@@ -6,7 +6,7 @@ ghost use Rattle.headers.specs.Fields.{aos_spacecraft, aos_channel};
 use headers::wide;
 use octets::octet_at;
 
-#[derive(Drop)]
+#[derive(Clone, Copy)]
 pub struct Aos;
 
 impl Aos {

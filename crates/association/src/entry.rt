@@ -6,7 +6,7 @@ use bodies::{direction_of, kind_in, service_of, state_of, window_of};
 use image::{body_at, mark_in, spi_of, version_of};
 
 // An entry as a report shows it. It holds no key.
-#[derive(Drop)]
+#[derive(Clone, Copy)]
 pub struct Entry {
     pub spi: u16,
     pub service: u8,

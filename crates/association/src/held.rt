@@ -6,7 +6,7 @@ ghost use Rattle.image.specs.Image.{body_of, key_of};
 use bodies::{layout_of, mask_of, service_of, window_of};
 use image::{body_at, key_of, spi_of, version_of};
 
-#[derive(Drop)]
+#[derive(Clone, Copy)]
 pub struct Held {
     pub service: u8,
     pub window: u16,

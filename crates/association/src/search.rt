@@ -13,14 +13,14 @@ use image::{body_at, count_of, spi_of, version_of};
 use kinds::{Named, kind_of};
 
 // The index of an entry, or none.
-#[derive(Drop)]
+#[derive(Clone, Copy)]
 pub enum Found {
     At(u8),
     Nothing,
 }
 
 // What a desk, a frame and its SPI ask of an entry.
-#[derive(Drop)]
+#[derive(Clone, Copy)]
 pub struct Wanted {
     pub desk: u8,
     pub spi: u16,

@@ -7,7 +7,7 @@ ghost use Rattle.block.specs.Halves.{value};
 use octets::octet_behind;
 
 // The first bit of the block is the highest of `hi`.
-#[derive(Drop)]
+#[derive(Clone, Copy)]
 pub struct Block {
     pub hi: u64,
     pub lo: u64,

@@ -26,7 +26,7 @@ pub(crate) const MASK_LENGTH: usize = 6;
 // The octets of a mark, coded.
 pub(crate) const CODE_LENGTH: usize = 4;
 
-#[derive(Drop)]
+#[derive(Clone, Copy)]
 pub struct Layout {
     pub version: u8,
     // The octets of a body, and where in it key and mark stand.

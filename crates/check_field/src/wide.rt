@@ -13,7 +13,7 @@ use crate::table::enter;
 const START: u64 = 0x84cf;
 
 // The first word has the highest powers.
-#[derive(Drop)]
+#[derive(Clone, Copy)]
 pub(crate) struct WideRegister {
     pub first: u64,
     pub second: u64,

@@ -12,7 +12,7 @@ use link::{Outcome, refused};
 use numbers::Numbers;
 
 // What a check leaves, and the number of the entry that its frame matched, afterwards; 0 where none matched.
-#[derive(Drop)]
+#[derive(Clone, Copy)]
 pub struct Checked {
     pub outcome: Outcome,
     pub number: u32,

@@ -12,7 +12,7 @@ const MOST_DROPPED: u32 = 4294967295;
 
 // How many events are kept, and how many were dropped. A caller who lends one has it laid out as C does.
 #[repr(C)]
-#[derive(Drop)]
+#[derive(Clone, Copy)]
 pub struct Log {
     pub kept: u32,
     pub dropped: u32,

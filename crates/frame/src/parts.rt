@@ -11,7 +11,7 @@ const MAC: usize = 16;
 
 // Where header, content, the data, and operational control field end. Each part begins where the one before it ends, the first at 0, and a
 // check field ends with the frame.
-#[derive(Drop)]
+#[derive(Clone, Copy)]
 pub struct ClearParts {
     pub header: usize,
     pub content: usize,
@@ -19,7 +19,7 @@ pub struct ClearParts {
 }
 
 // Where header, security header, content and MAC end.
-#[derive(Drop)]
+#[derive(Clone, Copy)]
 pub struct SecuredParts {
     pub header: usize,
     pub security: usize,

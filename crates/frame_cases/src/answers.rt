@@ -4,7 +4,7 @@ use lines::{front, print_number};
 use masking::Written;
 
 // What a line says of a case, beside the frame's octets and the mask's.
-#[derive(Drop)]
+#[derive(Clone, Copy)]
 pub(crate) struct Case {
     pub kind: u8,
     pub is_secured: bool,

@@ -19,7 +19,7 @@ const MOST_TEXT: usize = 0xf_ffff_ffe0;
 const MOST_ADDITIONAL: usize = 0x1fff_ffff_ffff_ffff;
 
 // Of several reasons the first named here is answered: a length that the standard does not allow; an output that is shorter than the text.
-#[derive(Drop)]
+#[derive(Clone, Copy)]
 pub enum Answer {
     Done,
     TooLong,
@@ -27,13 +27,13 @@ pub enum Answer {
 }
 
 // The tag is all zeros where the answer is not Done.
-#[derive(Drop)]
+#[derive(Clone, Copy)]
 pub struct Sealed {
     pub answer: Answer,
     pub tag: [u8; 16],
 }
 
-#[derive(Drop)]
+#[derive(Clone, Copy)]
 pub enum Checked {
     Right,
     Wrong,
@@ -41,7 +41,7 @@ pub enum Checked {
 }
 
 // Of several reasons the first in this order is answered: TooLong, Wrong, NoRoom.
-#[derive(Drop)]
+#[derive(Clone, Copy)]
 pub enum Outcome {
     Done,
     TooLong,

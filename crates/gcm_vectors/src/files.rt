@@ -5,7 +5,7 @@ use lines::read_line;
 use vector_lines::{Tally, is_empty};
 
 // What is tested of an entry: that it is sealed and opened as published, or that it is refused with one bit of a field changed.
-#[derive(Drop)]
+#[derive(Clone, Copy)]
 pub(crate) enum Trial {
     Sealed,
     Opened,

@@ -111,7 +111,7 @@ fn raised(half: u64) -> Block
 }
 
 // A product before it is reduced: what is shifted out of `high` is kept in `low`.
-#[derive(Drop)]
+#[derive(Clone, Copy)]
 struct Unreduced {
     high: Block,
     low: Block,

@@ -3,7 +3,7 @@
 ghost use Rattle.std.specs.Prelude.{◌≡◌};
 ghost use Rattle.judging.specs.Answers.{reported, refusal};
 
-#[derive(Drop)]
+#[derive(Clone, Copy)]
 pub enum Answer {
     Done(usize, u32),
     BadImage,
@@ -27,7 +27,7 @@ pub enum Answer {
 }
 
 // What a call reports: the number of its answer in the papers' table, the length of the result and the count of stores.
-#[derive(Drop)]
+#[derive(Clone, Copy)]
 pub struct Reported {
     pub number: u8,
     pub length: usize,

@@ -5,7 +5,7 @@ ghost use Rattle.judging.specs.Said.{no_desk};
 
 use bodies::LAST_DESK;
 
-#[derive(Drop)]
+#[derive(Clone, Copy)]
 pub struct Said {
     pub desk: u8,
     pub kind: u8,

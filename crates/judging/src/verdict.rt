@@ -4,14 +4,14 @@ use kinds::Framing;
 use marks::Plan;
 
 // Past the tests that come first: the framing of the frame and the entry that it matches, or the first refusal.
-#[derive(Drop)]
+#[derive(Clone, Copy)]
 pub enum Admission {
     To(Framing, u8),
     Refused(Answer),
 }
 
 // What is used where no test refuses: the entry, its new number, the octet stores, and the octets of the result.
-#[derive(Drop)]
+#[derive(Clone, Copy)]
 pub struct Grant {
     pub entry: u8,
     pub number: u32,
@@ -19,7 +19,7 @@ pub struct Grant {
     pub size: usize,
 }
 
-#[derive(Drop)]
+#[derive(Clone, Copy)]
 pub enum Verdict {
     Granted(Grant),
     Refused(Answer),

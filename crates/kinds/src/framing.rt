@@ -5,7 +5,7 @@ ghost use Rattle.kinds.specs.Kinds.{check_field_length, framed};
 
 use crate::kinds::Kind;
 
-#[derive(Drop)]
+#[derive(Clone, Copy)]
 pub struct Framing {
     pub kind: Kind,
     pub field: bool,

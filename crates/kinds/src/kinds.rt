@@ -19,7 +19,7 @@ const AOS_HEADER: usize = 6;
 // The most that a segment header holds as MAP.
 const MOST_MAP: u8 = 63;
 
-#[derive(Drop)]
+#[derive(Clone, Copy)]
 pub enum Kind {
     Tc,
     SegmentedTc,
@@ -27,14 +27,14 @@ pub enum Kind {
     Aos,
 }
 
-#[derive(Drop)]
+#[derive(Clone, Copy)]
 pub enum Named {
     Kind(Kind),
     Nothing,
 }
 
 // What came of rewriting a length field; Nothing where the kind has none, or the octets end before it.
-#[derive(Drop)]
+#[derive(Clone, Copy)]
 pub enum Rewritten {
     Field,
     Nothing,

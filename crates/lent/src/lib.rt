@@ -7,7 +7,7 @@ use notes::Notes;
 pub use packing::word;
 
 // The number that a call with notes returns, and the notes as it leaves them.
-#[derive(Drop)]
+#[derive(Clone, Copy)]
 pub struct NotedWord {
     pub word: u64,
     pub notes: Notes,

@@ -6,7 +6,7 @@ ghost use Rattle.link.specs.Steps.{outcome};
 use judging::{Answer, Grant};
 use numbers::Numbers;
 
-#[derive(Drop)]
+#[derive(Clone, Copy)]
 pub struct Outcome {
     pub answer: Answer,
     pub numbers: Numbers,

@@ -5,14 +5,14 @@ ghost use Rattle.marks.specs.Stores.{flipped_octet, code_octet, store_of, stores
 use crate::gray::gray_of;
 
 // One octet stored: where, and what.
-#[derive(Drop)]
+#[derive(Clone, Copy)]
 pub struct Store {
     pub at: usize,
     pub value: u8,
 }
 
 // What a call stores, before any of it is stored.
-#[derive(Drop)]
+#[derive(Clone, Copy)]
 pub enum Plan {
     Nothing,
     // An octet; two or three octets, one behind the other in time.

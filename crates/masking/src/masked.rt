@@ -9,7 +9,7 @@ use kinds::Framing;
 use octets::octet_at;
 
 // What came of writing to an output: so many octets stand at its front, or it has no room for them and is as it was.
-#[derive(Drop)]
+#[derive(Clone, Copy)]
 pub enum Written {
     Octets(usize),
     NoRoom,

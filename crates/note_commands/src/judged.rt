@@ -17,7 +17,7 @@ use numbers::{Numbers, Standing, test_standing};
 use octets::octet_at;
 
 // The octets of the reply, or the first refusal.
-#[derive(Drop)]
+#[derive(Clone, Copy)]
 pub enum Ruling {
     Granted(usize),
     Refused(Answer),

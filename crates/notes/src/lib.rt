@@ -16,7 +16,7 @@ pub const ALARM_RESET: u8 = 0x37;
 
 // A caller who lends them has them laid out as C does: the layout leaves no gap between the fields.
 #[repr(C)]
-#[derive(Drop)]
+#[derive(Clone, Copy)]
 pub struct Notes {
     pub reports: Reports,
     pub log: Log,

@@ -7,7 +7,7 @@ use judging::report_of;
 use link::Outcome;
 use notes::Notes;
 
-#[derive(Drop)]
+#[derive(Clone, Copy)]
 pub struct NotedOutcome {
     pub outcome: Outcome,
     pub notes: Notes,

@@ -11,20 +11,20 @@ use image::{count_of, image_ok, mark_in, mark_place, version_of};
 use marks::gray_of;
 use octets::four_at;
 
-#[derive(Drop)]
+#[derive(Clone, Copy)]
 pub struct Numbers {
     pub last: [u32; 32],
 }
 
 // How an image and numbers stand: answers 0, 1 and 2 of the paper.
-#[derive(Drop)]
+#[derive(Clone, Copy)]
 pub enum Standing {
     Good,
     BadImage,
     BadMarks,
 }
 
-#[derive(Drop)]
+#[derive(Clone, Copy)]
 pub struct Loaded {
     pub standing: Standing,
     pub numbers: Numbers,

@@ -16,7 +16,7 @@ use security_header::{Sequence, number_in, security_length};
 use services::{mac_is_right, release};
 
 // What is made once of a secured frame: its framing, what protects it with its key expanded, and where its parts end.
-#[derive(Drop)]
+#[derive(Clone, Copy)]
 pub struct Opening {
     pub framing: Framing,
     pub held: Held,

@@ -6,7 +6,7 @@ ghost use Rattle.procedures.specs.Procedures.{start, procedure_is, procedures, w
 use bodies::{KEYED, OPERATIONAL, UNKEYED};
 use command_form::{CHANNEL, KEY_ID, SPI};
 
-#[derive(Drop)]
+#[derive(Clone, Copy)]
 pub enum Procedure {
     Start,
     Stop,
@@ -22,7 +22,7 @@ pub enum Procedure {
     Inventory,
 }
 
-#[derive(Drop)]
+#[derive(Clone, Copy)]
 pub enum Called {
     Procedure(Procedure),
     Nothing,

@@ -15,7 +15,7 @@ const REPORT: usize = 4;
 
 // The reports of the desks, one behind the other. A caller who lends them has them laid out as C does.
 #[repr(C)]
-#[derive(Drop)]
+#[derive(Clone, Copy)]
 pub struct Reports {
     pub octets: [u8; 12],
 }

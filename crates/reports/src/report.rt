@@ -4,14 +4,14 @@ ghost use Rattle.reports.specs.Report.{flag, first_octet, number_told, renewing,
 ghost use Rattle.reports.specs.Report.{odd as Report·odd, unread as Report·unread};
 
 // What was bad about the last frame.
-#[derive(Drop)]
+#[derive(Clone, Copy)]
 pub struct Bad {
     pub number: bool,
     pub mac: bool,
     pub association: bool,
 }
 
-#[derive(Drop)]
+#[derive(Clone, Copy)]
 pub struct Report {
     pub alarm: bool,
     pub bad: Bad,

@@ -7,7 +7,7 @@ ghost use Rattle.services.specs.SecurityHeader.{field_under, number_under};
 use octets::four_at;
 
 // A number of 96 bits: `above` counts the whole multiples of 2^32 in it.
-#[derive(Drop)]
+#[derive(Clone, Copy)]
 pub struct Sequence {
     pub above: u64,
     pub number: u32,

@@ -16,7 +16,7 @@ fn length_field(n: usize) -> usize
     n - 1
 }
 
-#[derive(Drop)]
+#[derive(Clone, Copy)]
 pub struct Tc;
 
 impl Tc {
@@ -63,7 +63,7 @@ impl Tc {
 }
 
 // The segment header, the octet behind the five of the header.
-#[derive(Drop)]
+#[derive(Clone, Copy)]
 pub struct Segment;
 
 impl Segment {

@@ -9,7 +9,7 @@ use octets::octet_at;
 // The octets of the primary header.
 const PRIMARY: usize = 6;
 
-#[derive(Drop)]
+#[derive(Clone, Copy)]
 pub struct Tm;
 
 impl Tm {

@@ -6,7 +6,7 @@ ghost use Rattle.writing.specs.Output.{Put, written_to, length_of};
 use octets::put;
 
 // What came of writing a text: so many octets of it stand at the front of the output, or it has no room for them and is as it was.
-#[derive(Drop)]
+#[derive(Clone, Copy)]
 pub enum Written {
     Text(usize),
     NoRoom,
