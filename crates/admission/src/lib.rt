@@ -1,4 +1,6 @@
 // Document 01, 'What comes back': the tests that come first in securing and in checking, up to the search for the entry. Nothing is changed.
+#![tactic(auto)]
+
 mod admission;
 mod wanted;
 

@@ -1,4 +1,6 @@
 // Runs the published vectors of AES-256, and writes a line for each file of them: how many it ran, and how many differ.
+#![tactic(auto)]
+
 mod blocks;
 mod files;
 

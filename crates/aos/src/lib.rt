@@ -1,4 +1,6 @@
 // Document 02, request 1: the header of an AOS frame (CCSDS 732.0).
+#![tactic(auto)]
+
 ghost use Rattle.std.specs.Prelude.{◌≡◌};
 ghost use Rattle.headers.specs.Aos.{aos_rules};
 ghost use Rattle.headers.specs.Fields.{aos_spacecraft, aos_channel};

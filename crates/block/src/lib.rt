@@ -1,4 +1,6 @@
 // SP 800-38D, 6.1: a block of 128 bits in two halves of 64, and its way from octets and back.
+#![tactic(auto)]
+
 ghost use Rattle.std.specs.Prelude.{◌≡◌, ◌+◌, ◌*◌, ◌^◌, ◌≤◌, length, drop};
 ghost use Rattle.octets.specs.Numbers.{number, bytes};
 ghost use Rattle.octets.specs.Xor.{◌⊕◌};

@@ -1,5 +1,7 @@
 // Document 01, 'The image': the body of an entry, and the layout by which a version of the image has it. A body is named by the version by
 // which it is read and by its place in a list of octets. Every function answers for every list: what lies past its end reads as 0.
+#![tactic(auto)]
+
 mod body;
 mod layout;
 

@@ -1,4 +1,6 @@
 // The frame error control field of CCSDS 232.0 and CCSDS 132.0, here called check field: 16 bits behind a frame's other octets.
+#![tactic(auto)]
+
 mod table;
 mod wide;
 

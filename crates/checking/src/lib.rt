@@ -1,4 +1,6 @@
 // Document 01, 'What comes back': checking, carried out. Each call is what its definition of link's specs/Calls says.
+#![tactic(auto)]
+
 mod checking;
 
 ghost use Rattle.std.specs.Prelude.{◌≡◌};

@@ -1,5 +1,7 @@
 // AES-256 (FIPS 197), an octet at a time. A block and a state are their sixteen octets in the order of the input (3.4).
 // The expansion of a key serves any number of blocks: `encrypt_block(&expand_key(key), block)` is AES-256 of each.
+#![tactic(auto)]
+
 mod add_round_key;
 mod mix_columns;
 mod shift_rows;

@@ -1,4 +1,6 @@
 // Chains of calls, for measuring: of the cipher alone, and of the modes that stand on it.
+#![tactic(auto)]
+
 mod chains;
 mod modes;
 

@@ -1,6 +1,8 @@
 // CMAC (NIST SP 800-38B) with AES-256 and a MAC of 16 octets. A message is given as two parts that lie apart, a head and a body, and is
 // never copied: each block is read from where it lies. A caller that uses a key more than once expands it once, and takes the functions under
 // an expanded key; there it also says which engine is to make the blocks, by the tables that it lends (crate `engines`).
+#![tactic(auto)]
+
 ghost use Rattle.std.specs.Prelude.{◌≡◌, ◌++◌};
 ghost use Rattle.octets.specs.Same.{same};
 ghost use Rattle.engines.specs.Lent.{Lent};

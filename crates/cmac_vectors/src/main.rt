@@ -1,4 +1,6 @@
 // Runs the examples of SP 800-38B for AES-256, and writes how many it ran, and how many differ.
+#![tactic(auto)]
+
 mod macs;
 
 use lines::read_line;

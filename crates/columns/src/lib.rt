@@ -1,4 +1,6 @@
 // FIPS 197, 3.5: a state as its four columns, each a word of 32 bits with row 0 highest.
+#![tactic(auto)]
+
 ghost use Rattle.std.specs.Prelude.{◌≡◌, [], ◌∷◌, ◌+◌, ◌≤◌, length};
 ghost use Rattle.octets.specs.Lists.{octet, part};
 ghost use Rattle.octets.specs.Xor.{xors};

@@ -1,5 +1,7 @@
 // Document 02, request 5: the form of a command, its tag, length field and value, and the fields of a value: an SPI, and the channels that a
 // start names. Nothing is changed.
+#![tactic(auto)]
+
 mod channels;
 mod form;
 

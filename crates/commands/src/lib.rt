@@ -1,5 +1,7 @@
 // Document 02, requests 5 and 9: the command call, beside load, securing and checking. A command is decided, then carried out: its stores, the
 // managed number, then the reply. The call is what its definition of specs/Commanding says, for every input.
+#![tactic(auto)]
+
 ghost use Rattle.std.specs.Prelude.{◌≡◌, length, set, take};
 ghost use Rattle.octets.specs.Output.{fronted};
 ghost use Rattle.marks.specs.Stores.{stores_in};

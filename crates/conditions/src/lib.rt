@@ -1,5 +1,7 @@
 // Document 02, requests 5 and 9: what a procedure asks of the value of a command, of the association and of its last number; and the number
 // that the association then has. Nothing is changed.
+#![tactic(auto)]
+
 ghost use Rattle.std.specs.Prelude.{◌≡◌, [], eqb};
 ghost use Rattle.image.specs.Image.{version_of, body_of};
 ghost use Rattle.command_form.specs.Form.{number_behind_key};

@@ -1,4 +1,6 @@
 // Document 02, requests 5 and 9: a command under the entry that it names, 15, 16, 17, 18 and 6 in the papers' order. Nothing is changed.
+#![tactic(auto)]
+
 ghost use Rattle.judging.specs.Verdicts.{Judged};
 ghost use Rattle.deciding.specs.Steps.{procedure_judged};
 

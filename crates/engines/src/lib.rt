@@ -1,5 +1,7 @@
 // The two engines of AES-256 behind one call: that on words (crate `word_cipher`) for a caller that lends its tables, and that on octets (crate
 // `cipher`) for one that lends none. A layer above passes on what it is lent, and its contract says nothing of it: the block is the same.
+#![tactic(auto)]
+
 ghost use Rattle.std.specs.Prelude.{◌≡◌, true};
 ghost use Rattle.cipher.specs.Cipher.{cipher};
 ghost use Rattle.columns.specs.Columns.{state_from};

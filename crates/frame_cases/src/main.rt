@@ -1,5 +1,7 @@
 // Runs frames of each kind, well formed and malformed, and writes for each a line of every answer that the crate `frame` gives on it.
 // tools/frame_cases.py makes the frames and the expected answers from the paper alone.
+#![tactic(auto)]
+
 mod answers;
 
 use answers::{Case, print_answers};

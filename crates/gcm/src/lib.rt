@@ -2,6 +2,8 @@
 // values at its entry, by a definition of specs/Calls. A caller that uses a key more than once expands it once, and takes the functions under
 // an expanded key; there it also says which engine is to make the blocks, by the tables that it lends (crate `engines`). `decrypt` looks at no
 // tag: it is for a caller that has had `Right` of `check`.
+#![tactic(auto)]
+
 mod steps;
 
 ghost use Rattle.std.specs.Prelude.{◌≡◌};

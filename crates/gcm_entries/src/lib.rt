@@ -1,6 +1,8 @@
 // An entry of GCM's published vectors, a line `KEY IV PLAINTEXT ADDITIONAL CIPHERTEXT TAG`, and whether both engines seal and open it as
 // published. Where `is_sealed` or `is_opened` answers true, GCM's definitions make of the line's fields what the line says (specs/Entry); when
 // they answer false, their contracts leave free.
+#![tactic(auto)]
+
 mod entries;
 mod openings;
 mod seals;

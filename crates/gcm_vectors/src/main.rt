@@ -1,4 +1,6 @@
 // Runs the published vectors of GCM, and writes lines for each file of them: how many it ran, and how many differ.
+#![tactic(auto)]
+
 mod files;
 mod refusals;
 

@@ -1,5 +1,7 @@
 // SP 800-38D, 6.2 and 6.5: the counter's increment, and GCTR, Algorithm 3, with AES-256 under an expanded key. The tables say which engine
 // makes the blocks (crate `engines`).
+#![tactic(auto)]
+
 ghost use Rattle.std.specs.Prelude.{◌≡◌, min, ◌+◌, ◌-◌, ◌≤◌, length, drop};
 ghost use Rattle.std.proofs.Math.Seq.{paste};
 ghost use Rattle.octets.specs.Output.{fronted};

@@ -1,4 +1,6 @@
 // SP 800-38D, 6.3 and 6.4: the product of two blocks, and GHASH over the string that 7.1, step 5, makes of additional data and a ciphertext.
+#![tactic(auto)]
+
 mod product;
 
 ghost use Rattle.std.specs.Prelude.{◌≡◌, ℕ, ◌%◌, ◌^◌, length};

@@ -1,5 +1,7 @@
 // Document 01, 'The image', and document 02, request 9: a list of octets that the caller lends. An entry is named by its index in the contents, counted from 0. Every
 // function answers for every image: what lies past its end reads as 0.
+#![tactic(auto)]
+
 mod image;
 
 pub use image::{

@@ -1,5 +1,7 @@
 // Document 02, request 9: the reply to an inventory: how many keys of a key part have an ID from a first one to a last one, then ID and state
 // of each. A key part is named as in `keys`, and every function answers for every list: what lies past its end reads as 0.
+#![tactic(auto)]
+
 ghost use Rattle.std.specs.Prelude.{◌≡◌, ◌++◌, ◌∷◌, ◌+◌, ◌*◌, ◌≤◌, length};
 ghost use Rattle.octets.specs.Numbers.{bytes};
 ghost use Rattle.octets.specs.Output.{fronted};

@@ -1,6 +1,8 @@
 // Document 01, 'What comes back': how a call is judged. The first test that applies refuses, in the paper's order; where none does, a
 // verdict grants what is stored, handed out and remembered. The tests stand here in the definitions, with what follows from them, and the
 // answers and verdicts in the code; crates `admission` and `verdicts` judge, and crate `link` carries out.
+#![tactic(auto)]
+
 mod answers;
 mod said;
 mod verdict;

@@ -1,4 +1,6 @@
 // Document 02, request 9: the key that a command names, whether it is there, and whether its state is the one that the procedure asks.
+#![tactic(auto)]
+
 ghost use Rattle.std.specs.Prelude.{◌≡◌};
 ghost use Rattle.procedures.specs.Procedures.{procedure_is};
 

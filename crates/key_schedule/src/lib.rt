@@ -1,5 +1,7 @@
 // FIPS 197, 5.2: KeyExpansion, figure 11 with Nk = 8. Word i of the expanded key w is its octets 4i to 4i + 3. The expansion of a key serves any
 // number of blocks.
+#![tactic(auto)]
+
 ghost use Rattle.std.specs.Prelude.{◌≡◌, ◌-◌, ◌/◌, ◌≤◌, ◌<◌, take};
 ghost use Rattle.octets.specs.Lists.{IsTable};
 ghost use Rattle.octets.specs.Xor.{xors};

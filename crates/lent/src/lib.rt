@@ -1,4 +1,6 @@
 // What C lends and what it gets back: the 32 numbers, in a list that the caller lends, and what a call reports, in one number.
+#![tactic(auto)]
+
 mod lent;
 mod packing;
 

@@ -1,5 +1,7 @@
 // A load and a sending over lists that C lends: with 32 numbers the module's, by the engine that the tables are for; another count agrees with no
 // image, and is refused. Crate `link_c` gives them their names for C.
+#![tactic(auto)]
+
 ghost use Rattle.std.specs.Prelude.{[]};
 ghost use Rattle.engines.specs.Lent.{Lent};
 ghost use Rattle.lent.specs.Interface.{Returned, told};

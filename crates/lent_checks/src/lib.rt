@@ -1,5 +1,7 @@
 // Document 02, request 11: checking over lists that C lends, with its notes by value. With 32 numbers it is the module's, by the engine that the
 // tables are for; another count agrees with no image, and is refused, which is noted. Crate `link_c` gives it its names for C.
+#![tactic(auto)]
+
 ghost use Rattle.std.specs.Prelude.{◌≡◌, cond};
 ghost use Rattle.engines.specs.Lent.{Lent};
 ghost use Rattle.image.specs.Image.{valid_image};

@@ -1,6 +1,8 @@
 // Document 02, requests 5 and 11: the command call over lists that C lends, with its notes by value, and its cut. With 32 numbers they are the
 // module's; another count agrees with no image: a command is refused, which is noted, and a cut stores nothing. Crate `link_c` gives them their
 // names for C.
+#![tactic(auto)]
+
 ghost use Rattle.std.specs.Prelude.{◌≡◌, cond};
 ghost use Rattle.image.specs.Image.{valid_image};
 ghost use Rattle.lent.specs.Word.{word};

@@ -2,6 +2,8 @@
 // does is defined here: the answer, the numbers that come back, and every octet of the image and the output at its return. Load is carried
 // out here too, crate `securing` secures and crate `checking` checks. The caller keeps the image in memory that outlives a failure of power,
 // and hands the numbers of one call to the next.
+#![tactic(auto)]
+
 mod outcome;
 
 ghost use Rattle.std.specs.Prelude.{[], ◌≡◌};

@@ -3,6 +3,8 @@
 // is kept between calls.
 // The notes, reports and log, are a struct that the caller lends by `&mut` (document 01, 'Matching forms to places'): the function copies
 // them out, calls the one that does the work by value, and stores what that returns, the last thing that it does.
+#![tactic(auto)]
+
 ghost use Rattle.std.specs.Prelude.{[], ◌≡◌};
 ghost use Rattle.numbers.specs.Stores.{stores_made, after_stores};
 ghost use Rattle.lent.specs.Interface.{Returned, told};

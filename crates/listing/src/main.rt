@@ -1,4 +1,6 @@
 // Document 01, 'The listing program': reads an image from standard input and writes its listing to standard output.
+#![tactic(auto)]
+
 use image::LONGEST_IMAGE;
 use libc::{STDIN_FILENO, STDOUT_FILENO};
 use listing_text::{LONGEST, write_listing};

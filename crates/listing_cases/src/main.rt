@@ -1,6 +1,8 @@
 // Writes the listings of many images, by the function that the listing program calls. The input has for each image a line that begins
 // with `#` and names the case, which is written as it is, and a line of its octets in hexadecimal. tools/listing_cases.py makes the images
 // and the expected listings from the paper alone.
+#![tactic(auto)]
+
 use libc::STDIN_FILENO;
 use lines::{print, read_line, read_octets};
 use listing_text::{LONGEST, write_listing};

@@ -1,4 +1,6 @@
 // Document 01, 'The listing program': the text for an image. The program around it reads and writes.
+#![tactic(auto)]
+
 mod fields;
 mod lines;
 

@@ -1,5 +1,7 @@
 // NIST SP 800-38B, 6.2, steps 2 to 4: the blocks of a message. The message is `head` and `body` laid end to end. Blocks are counted from 0
 // here, so that block i is M_(i+1) of the standard.
+#![tactic(auto)]
+
 mod blocks;
 
 ghost use Rattle.std.specs.Prelude.{◌≡◌, ◌++◌, ◌+◌, ◌*◌, ◌^◌, ◌<◌, length};

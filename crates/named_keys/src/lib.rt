@@ -1,5 +1,7 @@
 // Document 02, request 9: a key that is named by its ID, in an image: whether it is there, whether it is active, and whether an operational
 // body names it. Every function answers for every image, and nothing is changed.
+#![tactic(auto)]
+
 ghost use Rattle.std.specs.Prelude.{◌≡◌};
 ghost use Rattle.named_keys.specs.NamedKeys.{has_key, key_there, key_active, idle_at, unserved, freed};
 

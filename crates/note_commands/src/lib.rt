@@ -1,5 +1,7 @@
 // Document 02, request 11: the commands to the notes, dump, erase and alarm reset: judged, and then replied to. Nothing is changed but the
 // output: what they do to the notes is done by the call that lends them, once it has the answer.
+#![tactic(auto)]
+
 mod judged;
 mod replying;
 

@@ -1,5 +1,7 @@
 // Document 02, request 11: the caller's notes, the frame security reports of the desks and the event log, as a check or a command leaves them
 // once it has its answer. Reports and counts go in by value and come back by value; the log's events lie in a list that is lent.
+#![tactic(auto)]
+
 ghost use Rattle.std.specs.Prelude.{◌≡◌};
 ghost use Rattle.event_log.specs.Held.{lent_log};
 ghost use Rattle.notes.specs.Noting.{fresh_notes, lent_notes, noted_check, reset_by, logged_by, noted_command};

@@ -1,5 +1,7 @@
 // Document 02, request 11: checking and the command call with the caller's notes: reports and counts go in by value and come back by value, and
 // the events lie in a list that is lent. Each call is what its definition of specs/Noted says.
+#![tactic(auto)]
+
 mod noted;
 
 ghost use Rattle.std.specs.Prelude.{◌≡◌};

@@ -1,4 +1,6 @@
 // Octets: what every layer cites of lists of octets. specs/ has the definitions and proofs/ the laws; the code is what several layers call.
+#![tactic(auto)]
+
 mod copying;
 
 ghost use Rattle.std.specs.Prelude.{◌≡◌, ◌+◌, ◌*◌};

@@ -1,4 +1,6 @@
 // Document 02, requests 5 and 9: what a command stores, as a plan, before any of it is stored. Nothing is changed.
+#![tactic(auto)]
+
 ghost use Rattle.std.specs.Prelude.{◌≡◌, [], ◌∷◌, ◌<◌};
 ghost use Rattle.marks.specs.Stores.{stores_of};
 ghost use Rattle.bodies.specs.Layout.{state_place, most_body};

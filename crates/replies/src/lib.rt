@@ -1,5 +1,7 @@
 // Document 02, requests 5 and 9: the reply to a command: tag, length field, value. Four procedures have one. Nothing is changed but the
 // output that it is written to.
+#![tactic(auto)]
+
 ghost use Rattle.std.specs.Prelude.{◌≡◌, [], ◌∷◌, ◌++◌, ℕ, length};
 ghost use Rattle.octets.specs.Numbers.{bytes};
 ghost use Rattle.octets.specs.Output.{fronted};

@@ -1,5 +1,7 @@
 // Document 02, request 11: the frame security reports, one for each of the desks 0, 1 and 2, renewed at each check. A report has four octets, as
 // CCSDS 355.1-B-1 lays them out. The three go in by value and come back by value; whatever their octets hold is read as reports.
+#![tactic(auto)]
+
 mod report;
 
 ghost use Rattle.std.specs.Prelude.{◌≡◌};

@@ -1,1 +1,2 @@
 // What shows that the round trip is not empty: theorems by computing in proofs/, and no code.
+#![tactic(auto)]

@@ -1,5 +1,7 @@
 // Document 02, request 12: reads a damaged image from standard input, writes the image that can be made of it to standard output, and to
 // standard error what became of its entries. Of a refused input there is no image, and the line that says so.
+#![tactic(auto)]
+
 use libc::{STDERR_FILENO, STDIN_FILENO, STDOUT_FILENO};
 use salvage_image::{LONGEST_SALVAGED, write_image};
 use salvage_lines::{LONGEST_LINES, write_lines};

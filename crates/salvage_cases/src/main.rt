@@ -1,6 +1,8 @@
 // Salvages many inputs, by the functions that the salvage program calls. The input has for each case a line that begins with `#` and names
 // it, which is written as it is, and a line of octets in hexadecimal. Behind the name come the lines for standard error, and then the image in
 // hexadecimal. tools/salvage_cases.py makes the inputs and what is expected of them from the papers alone.
+#![tactic(auto)]
+
 use libc::STDIN_FILENO;
 use lines::{print, print_octets, read_line, read_octets};
 use octets::octet_at;

@@ -1,5 +1,7 @@
 // Document 02, request 12: from the octets of a damaged image, the image that is made of its kept entries. The program around it reads and
 // writes.
+#![tactic(auto)]
+
 mod image_text;
 mod refusal;
 

@@ -1,4 +1,6 @@
 // Document 02, request 12: the lines that say what became of the entries of a damaged image. The program around it reads and writes.
+#![tactic(auto)]
+
 mod lines_text;
 
 ghost use Rattle.std.specs.Prelude.{◌≡◌};

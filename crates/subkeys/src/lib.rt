@@ -1,4 +1,6 @@
 // NIST SP 800-38B, 6.1: how a subkey is made of the block before it.
+#![tactic(auto)]
+
 ghost use Rattle.std.specs.Prelude.{◌≡◌};
 ghost use Rattle.subkeys.specs.Subkeys.{shifted, next_subkey};
 

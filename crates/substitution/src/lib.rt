@@ -1,4 +1,6 @@
 // FIPS 197, 4 and 5.1.1: the field GF(2^8), and the substitution that the key schedule and the rounds have in common.
+#![tactic(auto)]
+
 ghost use Rattle.std.specs.Prelude.{◌≡◌};
 ghost use Rattle.octets.specs.Lists.{IsTable};
 ghost use Rattle.substitution.specs.Field.{xtime};

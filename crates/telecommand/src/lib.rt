@@ -1,4 +1,6 @@
 // Document 01, 'Frames': the header of a TC frame (CCSDS 232.0), and the segment header behind it.
+#![tactic(auto)]
+
 ghost use Rattle.std.specs.Prelude.{◌≡◌, ◌-◌};
 ghost use Rattle.headers.specs.Fields.{tc_spacecraft, tc_channel, segment_map};
 ghost use Rattle.headers.specs.Telecommand.{tc_rules, tc_length_ok, tc_holds_length, tc_with_length};

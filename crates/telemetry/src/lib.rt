@@ -1,4 +1,6 @@
 // Document 01, 'Frames', and document 02, request 6: the header of a TM frame (CCSDS 132.0), and the secondary header behind it.
+#![tactic(auto)]
+
 ghost use Rattle.std.specs.Prelude.{◌≡◌};
 ghost use Rattle.headers.specs.Fields.{tm_spacecraft, tm_channel};
 ghost use Rattle.headers.specs.Telemetry.{tm_rules, tm_header, tm_trailer};

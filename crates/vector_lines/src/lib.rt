@@ -1,4 +1,6 @@
 // What the programs that run published vectors share: the fields of a line, each in hexadecimal, and how the vectors of a file went.
+#![tactic(auto)]
+
 mod fields;
 mod tally;
 

@@ -1,4 +1,6 @@
 // Document 01, 'What comes back': a frame is judged under the entry that it matches. Nothing is changed, and nothing decrypted.
+#![tactic(auto)]
+
 mod receiving;
 mod sending;
 mod window;

@@ -1,5 +1,7 @@
 // AES-256 (FIPS 197) on words of 32 bits: the same block as crate `cipher` gives, by tables of 4,096 octets, which a call takes once (crate
 // `word_tables`) and lends for any number of blocks. A state is its four columns, each a word with row 0 highest.
+#![tactic(auto)]
+
 ghost use Rattle.std.specs.Prelude.{◌≡◌};
 ghost use Rattle.word_tables.specs.Tables.{IsTables};
 ghost use Rattle.cipher.specs.Cipher.{cipher, aes256};

@@ -1,6 +1,8 @@
 // FIPS 197, the steps of a round (5.1) on the four columns of a state, each a word with row 0 highest, by tables (crate `word_tables`).
 // ShiftRows (5.1.2) takes row r of a column from the column r places further to the right, so that a column of what follows it is made of
 // four: row 0 of a, row 1 of b, row 2 of c and row 3 of d.
+#![tactic(auto)]
+
 ghost use Rattle.std.specs.Prelude.{◌≡◌, ◌%◌, ◌<◌};
 ghost use Rattle.octets.specs.Lists.{octet};
 ghost use Rattle.substitution.specs.Field.{◌⊗◌};

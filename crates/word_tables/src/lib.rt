@@ -1,4 +1,6 @@
 // The four tables of the rounds on words: MixColumns (FIPS 197, 5.1.3) of one substituted octet in each row of a column, 256 words for each row.
+#![tactic(auto)]
+
 ghost use Rattle.word_tables.specs.Tables.{IsTables};
 
 #[rattlefmt::skip]

@@ -1,5 +1,7 @@
 // Text in an output that the caller lends: an octet, a text or a number in decimal put at a place, one behind the other, and a whole text
 // put to the front. What is put at a place needs room there, which the caller shows.
+#![tactic(auto)]
+
 mod decimal;
 mod output;
 

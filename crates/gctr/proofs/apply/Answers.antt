@@ -1,0 +1,33 @@
+-- `apply` is right because before each block `out` begins with as many octets of the result, and the rest of it stands as it was.
+-- Assumes nothing.
+use mathlib.Core.Path.{refl}
+use Prim.Native.Nat.{◌-◌}
+use native.Mathlib.Omega.{arith}
+use Rattle.block.specs.Halves.{value}
+use Rattle.gctr.proofs.Counting.{streaming_none, streaming_more, streaming_all, streaming_refused}
+use borrow.Author.Rules.{rules}
+use Rattle.gctr.proofs.apply.Goals as goal
+
+pub returns-then-out-src : goal.returns-then-out-src
+returns-then-out-src c = let given = c.args in
+    streaming_refused given.expanded.now given.src.now given.out.now (value given.icb) c.if-out-src.true
+
+pub loop-at-init : goal.loop-at-init
+loop-at-init c = (refl, streaming_none _ _ _ _)
+
+pub add_stream-at-requires : goal.add_stream-at-requires
+add_stream-at-requires c = record { at_in_bounds = omega arith; src_in_bounds = omega arith }
+
+pub loop-at-preserved : goal.loop-at-preserved
+loop-at-preserved c = let at-loop = c.loop-at in
+    let given = c.args in (
+      search rules,
+      streaming_more given.expanded.now given.src.now given.out.now (value given.icb) (omega arith) c.loop-at-test.true
+          c.add_stream-at.ensures.0 c.encipher.ensures c.add_stream-at.ensures.1 c.increment-cb.ensures at-loop.invariant.1,
+    )
+
+pub shape_of-out : goal.shape_of-out
+shape_of-out c = c.loop-at.invariant.0
+
+pub returns : goal.returns
+returns c = streaming_all _ _ _ _ c.loop-at-test.false (omega arith) c.loop-at.invariant.1

@@ -1,0 +1,15 @@
+-- `channel` is right because each arm asks the type of the kind that it is the arm of.
+-- Assumes nothing.
+use Rattle.kinds.proofs.kinds.Kind.channel.Goals as goal
+
+pub returns-in-Tc : goal.returns-in-Tc
+returns-in-Tc c = rw c.in-Tc.is c.channel.ensures
+
+pub returns-in-SegmentedTc : goal.returns-in-SegmentedTc
+returns-in-SegmentedTc c = rw c.in-SegmentedTc.is c.channel-in-SegmentedTc.ensures
+
+pub returns-in-Tm : goal.returns-in-Tm
+returns-in-Tm c = rw c.in-Tm.is c.channel-in-Tm.ensures
+
+pub returns-in-Aos : goal.returns-in-Aos
+returns-in-Aos c = rw c.in-Aos.is c.channel-in-Aos.ensures

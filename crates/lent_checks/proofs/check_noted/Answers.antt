@@ -1,0 +1,10 @@
+-- `check_noted` is right because no tables are lent to the engine that needs none.
+-- Assumes nothing.
+use borrow.Author.Rules.{rules}
+use Rattle.lent_checks.proofs.check_noted.Goals as goal
+
+pub check_lent-requires : goal.check_lent-requires
+check_lent-requires c = search rules
+
+pub returns : goal.returns
+returns c = c.check_lent.ensures

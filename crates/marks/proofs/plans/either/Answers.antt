@@ -1,0 +1,10 @@
+-- `either` is right because its test is that of the definition.
+-- Assumes nothing.
+use borrow.Author.Tests.{eq-eqb, ne_eqb}
+use Rattle.marks.proofs.plans.either.Goals as goal
+
+pub returns-then-i-eq0 : goal.returns-then-i-eq0
+returns-then-i-eq0 c = rw (eq-eqb c.args.i 0 c.if-i-eq0.true)
+
+pub returns : goal.returns
+returns c = rw (ne_eqb c.args.i 0 c.if-i-eq0.false)

@@ -1,0 +1,32 @@
+-- `keep_entries` is right because each turn puts an entry behind those kept before it, if it may be kept beside them.
+-- Assumes nothing.
+use mathlib.Core.Path.{◌≡◌, refl, sym, ◌∙◌}
+use mathlib.Core.Logic.{⊎_elim}
+use Prim.Native.Nat.{◌-◌}
+use native.Mathlib.Omega.{arith}
+use lib.Seq.{length-take-le}
+use Rattle.image.specs.Image.{count_of}
+use Rattle.salvage_entries.proofs.Gathering.{gathered_none, gathered_more, gathered_same}
+use borrow.Author.Rules.{rules}
+use Rattle.salvage_entries.proofs.keeping.keep_entries.Goals as goal
+
+pub loop-i-init : goal.loop-i-init
+loop-i-init c = (search rules, gathered_none refl)
+
+pub slice_bounds-keepable-end-in-loop-i : goal.slice_bounds-keepable-end-in-loop-i
+slice_bounds-keepable-end-in-loop-i c = sym (length-take-le _ _ (search rules))
+
+pub loop-i-preserved : goal.loop-i-preserved
+loop-i-preserved c = let at-loop = c.before.before.before.before.loop in
+    let test = sym c.keepable.ensures in (
+      search rules,
+      ⊎_elim
+          (λ w. rw (w.1, w.2) (gathered_more (search rules) (test ∙ w.0.taken) at-loop.invariant.1))
+          (λ w. rw (w.1, w.2) (gathered_same (test ∙ w.0.left) at-loop.invariant.1))
+          c.if-keepable.branch,
+    )
+
+pub returns : goal.returns
+returns c = let g = c.loop-i.invariant.1 in
+    let all : c.loop-i.i ≡ count_of c.args.x.now = omega arith in
+    (search rules, rw (← all) g.front)
