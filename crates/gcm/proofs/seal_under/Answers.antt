@@ -24,6 +24,6 @@ slice_bounds-make_tag-end-2 c = sym (length-take-le _ _ (search rules))
 
 pub returns : goal.returns
 returns c = let given = c.args in
-    seal_made given.expanded.now given.iv given.plain.now given.out.now crypted.crypt.new.1.1.1.1.0 room.if2.false
-    crypted.crypt.ensures given.additional.now c.make_tag-tag.result (sym allowed.before.too_long.ensures ∙ allowed.if1.false)
+    seal_made given.expanded.now given.iv given.plain.now given.out.now _ c.if-out-n.false
+    c.crypt.ensures given.additional.now c.make_tag-tag.result (sym c.too_long.ensures ∙ c.if-too_long.false)
     c.make_tag-tag.ensures

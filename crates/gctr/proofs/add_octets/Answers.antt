@@ -27,7 +27,7 @@ pub loop-j-init : goal.loop-j-init
 loop-j-init c = let given = c.args in (
   omega arith,
   refl,
-  paste-zero given.out.now given.at (xors 16 (drop given.at given.src.now) given.t1),
+  paste-zero given.out.now given.at (xors 16 (drop given.at given.src.now) given.stream),
 )
 
 pub loop-j-preserved : goal.loop-j-preserved
@@ -35,7 +35,7 @@ loop-j-preserved c = let at-loop = c.loop-j in
     let given = c.args in (
       omega arith,
       simp length-set at-loop.invariant.1,
-      more given.src.now given.t1 given.out.now at-loop.out given.at at-loop.j (omega arith) (omega arith) at-loop.invariant.2,
+      more given.src.now given.stream given.out.now at-loop.out given.at at-loop.j (omega arith) (omega arith) at-loop.invariant.2,
     )
 
 pub returns : goal.returns

@@ -17,19 +17,19 @@ more : (block old out : List ℕ) (at j : ℕ) → j < length block → at + j <
 more block old out at j small room e = rw (e, add-one) (paste-suc old at block j 0 room small)
 
 pub loop-j-init : goal.loop-j-init
-loop-j-init c = let given = c.args in (omega arith, refl, paste-zero given.out.now given.at given.t1)
+loop-j-init c = let given = c.args in (omega arith, refl, paste-zero given.out.now given.at given.block)
 
 pub loop-j-preserved : goal.loop-j-preserved
 loop-j-preserved c = let at-loop = c.loop-j in
     let given = c.args in
-    let long : length given.t1 ≡ 16 = search rules in (
+    let long : length given.block ≡ 16 = search rules in (
       omega arith,
       simp length-set at-loop.invariant.1,
-      more given.t1 given.out.now at-loop.out given.at at-loop.j (omega arith) (omega arith) at-loop.invariant.2,
+      more given.block given.out.now at-loop.out given.at at-loop.j (omega arith) (omega arith) at-loop.invariant.2,
     )
 
 pub returns : goal.returns
 returns c = let at-loop = c.loop-j in
     let given = c.args in
     let all : at-loop.j ≡ 16 = omega arith in
-    at-loop.invariant.2 ∙ ap (paste given.out.now given.at given.t1) all
+    at-loop.invariant.2 ∙ ap (paste given.out.now given.at given.block) all

@@ -15,7 +15,7 @@ pub loop-j-preserved : goal.loop-j-preserved
 loop-j-preserved c = let at-loop = c.loop-j in
     let given = c.args in
     filled_more c.loop-j-test.true
-    (ap (λ (n : ℕ). n ⊕ octet given.t1 at-loop.j) (sym (get_or-drop given.at given.src.now at-loop.j 0))) at-loop.invariant
+    (ap (λ (n : ℕ). n ⊕ octet given.stream at-loop.j) (sym (get_or-drop given.at given.src.now at-loop.j 0))) at-loop.invariant
 
 pub returns : goal.returns
 unfolding xors

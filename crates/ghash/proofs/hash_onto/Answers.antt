@@ -9,16 +9,16 @@ use Rattle.ghash.proofs.Hashing.{hash_more, hash_none}
 use Rattle.ghash.proofs.hash_onto.Goals as goal
 
 pub loop-at-init : goal.loop-at-init
-loop-at-init c = simp sub-zero
+loop-at-init c h is = simp sub-zero
 
 pub loop-at-preserved : goal.loop-at-preserved
-loop-at-preserved c = let at-loop = c.loop-at in
+loop-at-preserved c h is = let at-loop = c.loop-at in
     let s = c.args.s.now in
     hash_more h (value at-loop.z) at-loop.at (value c.load.result) (value c.xor.result)
     (value c.multiply-z.result) _ s (omega arith) (at-loop.invariant h is) c.load.ensures c.xor.ensures
     (c.multiply-z.ensures h is)
 
 pub returns : goal.returns
-returns c = let at-loop = c.loop-at in
+returns c h is = let at-loop = c.loop-at in
     let s = c.args.s.now in
     sym (hash_none h (value at-loop.z) at-loop.at s (omega arith)) ∙ at-loop.invariant h is

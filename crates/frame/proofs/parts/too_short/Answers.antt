@@ -3,11 +3,12 @@
 use Prim.Native.Nat.{◌<◌}
 use native.Mathlib.Omega.{arith}
 use Rattle.kinds.proofs.Sizes.{header_short, trailer_short}
+use Rattle.frame.proofs.parts.too_short.Goals.{After-trailer_length-trailer}
 use Rattle.frame.proofs.parts.too_short.Goals as goal
 
-bounds : (c : tie.After-trailer-length) → (c.before.header-length.result < 256) × (c.trailer-length.result < 256)
+bounds : (c : After-trailer_length-trailer) → (c.header_length-header.result < 256) × (c.trailer_length-trailer.result < 256)
 bounds c =
-    let given = c.before.before.before.args in
+    let given = c.args in
     (omega (arith, header_short given.framing.kind given.frame.now), omega (arith, trailer_short given.framing given.frame.now))
 
 pub overflow_add-result : goal.overflow_add-result

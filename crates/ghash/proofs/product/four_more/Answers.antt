@@ -9,7 +9,7 @@ use Rattle.ghash.proofs.Unreduced.{halves_more, high_made, low_made, zeros-left,
 use Rattle.ghash.proofs.product.four_more.Goals as goal
 
 pub returns : goal.returns
-returns c = let given = c.args in
+returns c h is partway = let given = c.args in
     let k : ℕ = given.k in
     let v : ℕ = value given.z.high in
     let w : ℕ = value given.z.low in

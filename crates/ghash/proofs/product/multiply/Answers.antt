@@ -25,7 +25,7 @@ loop-k-preserved c = let at-loop = c.loop-k in (
 )
 
 pub returns : goal.returns
-returns c = let at-loop = c.loop-k in
+returns c h is = let at-loop = c.loop-k in
     let x = c.args.x in
     let v : ℕ = value at-loop.lower.high in
     let w : ℕ = value at-loop.lower.low in

@@ -13,8 +13,8 @@ use Rattle.masking.proofs.Fronting.{with_room, without_room, refused, told}
 use Rattle.masking.proofs.masked.mask_header.Goals.{After-lesser-count}
 use Rattle.masking.proofs.masked.mask_header.Goals as goal
 
-counted : (c : After-lesser-count invariant-loop decreases-loop) → let given = c.before.before.before.before.before.args in
-    c.lesser.result ≡ min ((framed given.framing).header given.frame.now) (length given.frame.now)
+counted : (c : After-lesser-count) → let given = c.args in
+    c.lesser-count.result ≡ min ((framed given.framing).header given.frame.now) (length given.frame.now)
 counted c = rw (← c.header_length.ensures) c.lesser-count.ensures
 
 pub returns-then-out-count : goal.returns-then-out-count
