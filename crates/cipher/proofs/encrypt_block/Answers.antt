@@ -1,7 +1,6 @@
 -- `encrypt_block` is right because after n turns the state is that of `rounds` after n rounds.
 -- Assumes nothing.
 use mathlib.Core.Path.{◌≡◌, refl}
-use Prim.Native.Nat.{◌-◌}
 use native.Mathlib.Numerals.{add-one}
 use native.Mathlib.Omega.{arith}
 use Rattle.cipher.specs.Cipher.{rounds}

@@ -1,7 +1,6 @@
 -- `mac_under` is right because after i turns it holds C_i, as far as its subkeys are those of the expanded key.
 -- Assumes nothing.
 use mathlib.Core.Path.{◌∙◌, refl}
-use Prim.Native.Nat.{◌-◌}
 use native.Mathlib.Omega.{arith}
 use lib.ListN.{length-append}
 use Rattle.octets.specs.Lists.{tab}

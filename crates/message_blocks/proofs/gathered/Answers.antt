@@ -1,7 +1,6 @@
 -- `gathered` is right because each turn writes one octet of the message, and the turns go through sixteen of them.
 -- Assumes nothing.
 use mathlib.Core.Path.{refl}
-use Prim.Native.Nat.{◌-◌}
 use Rattle.octets.proofs.Rules.{filled_none, filled_more, filled_all}
 use Rattle.message_blocks.proofs.gathered.Goals as goal
 

@@ -1,9 +1,7 @@
 -- `shifted` is right because dropping an octet's first bit and doubling is doubling and dropping what exceeds an octet.
 -- Assumes nothing.
--- octet i of the shifted block
 use mathlib.Core.Path.{◌≡◌, refl, ap, subst}
-use mathlib.Core.List.{List}
-use Prim.Native.Nat.{ℕ, ◌+◌, ◌-◌, ◌*◌, ◌/◌, ◌%◌}
+use Prim.Native.Nat.{ℕ, ◌+◌, ◌*◌, ◌/◌, ◌%◌}
 use native.Mathlib.Omega.{arith}
 use lib.ListN.{length, get_or-eq_default}
 use mir.Syntax.{w8}
@@ -12,10 +10,8 @@ use Rattle.octets.specs.Lists.{octet}
 use Rattle.octets.proofs.Rules.{Filled, filled_none, filled_more, filled_all}
 use Rattle.subkeys.specs.Subkeys.{shifted}
 use borrow.Author.Rules.{rules}
+use Rattle.subkeys.proofs.shifted.Invariants.{rule}
 use Rattle.subkeys.proofs.shifted.Goals as goal
-
-abbrev rule : List ℕ → ℕ → ℕ
-rule x i = octet x i * 2 % 256 + octet x (i + 1) / 128
 
 doubled : (a : ℕ) → a % 128 * 2 ≡ a * 2 % 256
 doubled a = omega arith

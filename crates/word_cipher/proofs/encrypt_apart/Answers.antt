@@ -1,7 +1,6 @@
 -- `encrypt_apart` is right because after n turns the columns are those of the state that `rounds` has after n rounds.
 -- Assumes nothing.
 use mathlib.Core.Path.{◌≡◌, refl}
-use Prim.Native.Nat.{◌-◌}
 use native.Mathlib.Numerals.{add-one}
 use native.Mathlib.Omega.{arith}
 use Rattle.cipher.specs.Cipher.{round, rounds}

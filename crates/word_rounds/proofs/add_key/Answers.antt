@@ -13,7 +13,7 @@ use Rattle.word_rounds.proofs.add_key.Goals as goal
 pub returns : goal.returns
 unfolding add_round_key
 returns c = let given = c.args in
-    let v = given.t3 in
+    let v = given.v in
     let w = given.expanded.now in
     let n : ℕ = given.round in
     columns (λ r c. at (state_from v) r c ⊕ at w r (4 * n + c)) (keyed v w n 0 (omega arith) (omega arith) c.word_at.ensures)

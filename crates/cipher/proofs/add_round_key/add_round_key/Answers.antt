@@ -1,7 +1,7 @@
 -- `add_round_key` is right because octet i of a round key is at row i % 4 of the word in column i / 4.
 -- Assumes nothing.
 use mathlib.Core.Path.{refl, ap₂}
-use Prim.Native.Nat.{ℕ, ◌-◌}
+use Prim.Native.Nat.{ℕ}
 use Rattle.octets.specs.Lists.{octet}
 use Rattle.octets.specs.Xor.{◌⊕◌}
 use Rattle.octets.proofs.Rules.{filled_none, filled_more, filled_all}
@@ -15,7 +15,7 @@ loop-i-init c = filled_none refl
 pub loop-i-preserved : goal.loop-i-preserved
 loop-i-preserved c = let a = c.args in
     filled_more c.loop-i-test.true
-    (ap₂ (λ (j k : ℕ). octet a.t3 j ⊕ octet a.expanded.now k) (cell_at _) (round-key-at a.round _))
+    (ap₂ (λ (j k : ℕ). octet a.s j ⊕ octet a.expanded.now k) (cell_at _) (round-key-at a.round _))
     c.loop-i.invariant
 
 pub returns : goal.returns

@@ -1,7 +1,7 @@
 -- `sub_bytes` is right because each turn writes the S-box of one octet of the state, and the turns go through all sixteen.
 -- Assumes nothing.
 use mathlib.Core.Path.{◌∙◌, refl, ap}
-use Prim.Native.Nat.{ℕ, ◌-◌}
+use Prim.Native.Nat.{ℕ}
 use Rattle.octets.specs.Lists.{octet}
 use Rattle.octets.proofs.Rules.{filled_none, filled_more, filled_all}
 use Rattle.substitution.specs.Sbox.{sbox}

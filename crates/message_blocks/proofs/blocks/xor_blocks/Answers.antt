@@ -1,7 +1,6 @@
 -- `xor_blocks` is right because each turn writes the exclusive-or of one pair of octets, and the turns go through all sixteen.
 -- Assumes nothing.
 use mathlib.Core.Path.{refl}
-use Prim.Native.Nat.{◌-◌}
 use Rattle.octets.specs.Xor.{xors}
 use Rattle.octets.proofs.Rules.{filled_none, filled_more, filled_all}
 use Rattle.message_blocks.proofs.blocks.xor_blocks.Goals as goal
