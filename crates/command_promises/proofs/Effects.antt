@@ -11,7 +11,7 @@ use native.Mathlib.Omega.{arith}
 use borrow.Author.Tests.{eq-eqb, ne_eqb}
 use lib.Dec.{eqb}
 use lib.ListN.{length, set, take}
-use lib.Seq.{take_nil, get_or-set_same, get_or-set_other}
+use lib.Seq.{take-nil, get_or-set_same, get_or-set_other}
 use Rattle.octets.specs.Lists.{octet, Octets}
 use Rattle.octets.specs.Numbers.{number_at}
 use Rattle.image.specs.Image.{valid_image, mark_in}
@@ -142,7 +142,7 @@ module _ (e : ℕ) (x : State) (inv : Inv x) (below : e < count_in x.image) (des
         by-entry : Dec (e ≡ i) → mark_in s e ≤ mark_in (stored s (take j (stores_of (procedure_is p) s last i (value_of c)))) e
         by-entry (yes own) = rw own ((does p s last i (value_of c) named ready).after j).rises
         by-entry (no other) = omega (arith, ((does p s last i (value_of c) named ready).after j).other_mark e other)
-    mark_up j (nowhere none same) = rw (none, take_nil {A = Store} j) (omega arith)
+    mark_up j (nowhere none same) = rw (none, take-nil {A = Store} j) (omega arith)
     mark_up j (turning id state one turns same) =
         rw one
         (first_of_one (λ (t : List ℕ). mark_in s e ≤ mark_in t e) s (key_state_in s id state) (omega arith)
@@ -155,7 +155,7 @@ module _ (e : ℕ) (x : State) (inv : Inv x) (below : e < count_in x.image) (des
         by-entry : Dec (e ≡ i) → mark_in (stored s (take j (stores_of (procedure_is p) s last i (value_of c)))) e ≡ mark_in s e
         by-entry (yes own) = rw own ((does p s last i (value_of c) named ready).stands (other_tag not_ours p calls (sym (has_spi_lem s desk (spi_named (value_of c)) i has).0 ∙ ap (spi_at s) (sym own))) j)
         by-entry (no other) = ((does p s last i (value_of c) named ready).after j).other_mark e other
-    mark-same j not_ours (nowhere none same) = rw (none, take_nil {A = Store} j) refl
+    mark-same j not_ours (nowhere none same) = rw (none, take-nil {A = Store} j) refl
     mark-same j not_ours (turning id state one turns same) =
         rw one
         (first_of_one (λ (t : List ℕ). mark_in t e ≡ mark_in s e) s (key_state_in s id state) refl (marks_stay s id state turns e below) j)
@@ -166,7 +166,7 @@ module _ (e : ℕ) (x : State) (inv : Inv x) (below : e < count_in x.image) (des
     reloaded j any (at p i calls named listed has ready is) =
         let m = (does p s last i (value_of c) named ready).after j in
         rw is (loaded_last (stored s (take j (stores_of (procedure_is p) s last i (value_of c)))) any m.valid e (rw m.count below))
-    reloaded j any (nowhere none same) = rw (none, take_nil {A = Store} j) (loaded_last s any passed e below)
+    reloaded j any (nowhere none same) = rw (none, take-nil {A = Store} j) (loaded_last s any passed e below)
     reloaded j any (turning id state one turns same) =
         rw one
         (first_of_one (λ (t : List ℕ). last_at (loaded t any).numbers e ≡ 64 * mark_in t e + 63) s (key_state_in s id state)

@@ -7,7 +7,7 @@ use mathlib.Core.Bool.{true}
 use mathlib.Core.List.{List}
 use native.Mathlib.Decide.{ℕ_discrete}
 use lib.ListN.{length, take, length-set}
-use lib.Seq.{take-length, take_nil}
+use lib.Seq.{take-length, take-nil}
 use Rattle.octets.specs.Lists.{Octets}
 use Rattle.image.specs.Image.{valid_image}
 use Rattle.marks.specs.Stores.{stored}
@@ -120,7 +120,7 @@ module _ (x : State) (inv : Inv x) where
         rw is
         (load-keeps (stored s (take j (stores_of (procedure_is p) s last i (value_of c)))) any m.octets
         (m.valid ∙ sym (valid_so z)) (same_managed s i _ listed m))
-    cut_at j any z (nowhere none same) = rw (none, take_nil {A = Store} j) (load-keeps s any inv.octets refl (same_itself s))
+    cut_at j any z (nowhere none same) = rw (none, take-nil {A = Store} j) (load-keeps s any inv.octets refl (same_itself s))
     cut_at j any z (turning id state one turns same) =
         rw one
         (first_of_one (λ (t : List ℕ). Keeps x (kept (loaded t any))) s (key_state_in s id state)

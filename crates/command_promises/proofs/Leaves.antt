@@ -6,7 +6,7 @@ use mathlib.Core.Bool.{Bool, true, false, cond}
 use mathlib.Core.List.{List, [], ◌∷◌, ◌++◌}
 use native.Mathlib.Omega.{arith}
 use lib.ListN.{length, set, take}
-use lib.Seq.{take-length, take_nil, get_or-drop, set-get_or}
+use lib.Seq.{take-length, take-nil, get_or-drop, set-get_or}
 use Rattle.octets.specs.Lists.{octet, Octets}
 use Rattle.octets.specs.Numbers.{bytes}
 use Rattle.marks.specs.Gray.{gray}
@@ -107,7 +107,7 @@ module _ (image numbers : List ℕ) (desk : ℕ) (c output : List ℕ) (z : (com
     cut_managed j (at p i calls named listed spi ready is) =
         let m = (does p image numbers i (value_of c) named ready).after j in
         rw is (m.valid, m.octets)
-    cut_managed j (nowhere none same) = rw (none, take_nil {A = Store} j) (passed, octets)
+    cut_managed j (nowhere none same) = rw (none, take-nil {A = Store} j) (passed, octets)
     cut_managed j (turning id state one turns same) =
         rw one
         (first_of_one (λ (t : List ℕ). (valid_image t ≡ true) × Octets t) image (key_state_in image id state) (passed, octets)

@@ -11,7 +11,7 @@ use native.Mathlib.Omega.{arith}
 use borrow.Author.Tests.{eqb-true, le-leb}
 use lib.Dec.{eqb}
 use lib.ListN.{length, set, take, length-set}
-use lib.Seq.{take_nil, get_or-set_same, get_or-set_other}
+use lib.Seq.{take-nil, get_or-set_same, get_or-set_other}
 use Rattle.octets.specs.Lists.{octet, Octets}
 use Rattle.octets.proofs.Bounds.{octets-set}
 use Rattle.octets.proofs.Numbers.{number_at-same}
@@ -106,7 +106,7 @@ pub first_of_one : (P : List ℕ → Type 0) (image : List ℕ) (s : Store) → 
     → (j : ℕ) → P (stored image (take j (s ∷ [])))
 unfolding stored
 first_of_one P image s none one zero = none
-first_of_one P image s none one (suc j) = rw (take_nil {A = Store} j) one
+first_of_one P image s none one (suc j) = rw (take-nil {A = Store} j) one
 
 pub first_of_two : (P : List ℕ → Type 0) (image : List ℕ) (s t : Store) → P image → P (put image s) → P (put (put image s) t)
     → (j : ℕ) → P (stored image (take j (s ∷ t ∷ [])))

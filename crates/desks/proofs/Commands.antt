@@ -8,7 +8,7 @@ use mathlib.Core.Bool.{Bool, true, false, true≢false}
 use mathlib.Core.List.{List}
 use native.Mathlib.Omega.{arith}
 use lib.ListN.{length}
-use lib.Seq.{take_nil, get_or-set_other}
+use lib.Seq.{take-nil, get_or-set_other}
 use Rattle.octets.specs.Lists.{octet, Octets}
 use Rattle.octets.specs.Numbers.{number_at}
 use Rattle.marks.specs.Stores.{stored}
@@ -105,7 +105,7 @@ module _ (s : List ℕ) (four : version_in s ≡ 4) where
         (record { procedure = p; calls = calls; naming = named; names = record { entry = listed; spi = n.0 ∙ shifted c 0 2; seen = n.1 } })
         (ap (λ (x : Reply). x.entry) is)
         (λ j. rw is (managed_touches i _ ((does p s l i (value_of c) named ready).after j)))
-    by_where (nowhere empty stays) = aside (λ j p h. rw (empty, take_nil {A = Store} j) refl) stays
+    by_where (nowhere empty stays) = aside (λ j p h. rw (empty, take-nil {A = Store} j) refl) stays
     by_where (turning id state one turns stays) =
         aside
         (λ j p h.

@@ -12,7 +12,7 @@ use native.Mathlib.Omega.{arith}
 use borrow.Author.Tests.{lt-ltb, le-ltb}
 use lib.ListN.{length, set, take, drop, length-drop, length-set}
 use lib.Seq.{drop-cons, drop-drop, get_or-drop, paste-suc}
-use Rattle.io.proofs.Counting.{prefix_len_of_le}
+use Rattle.lines.proofs.Counting.{prefix_len_of_le}
 use Rattle.octets.specs.Lists.{octet}
 use Rattle.lines.specs.Hexadecimal.{octet_of, octets_of, Read}
 

@@ -10,7 +10,7 @@ use native.Mathlib.Omega.{arith}
 use borrow.Author.Count.{below_more}
 use lib.ListN.{length, set, drop, length-set}
 use lib.Seq.{get_or-set_same, get_or-set_other, drop-set-lt, drop-drop}
-use Rattle.io.proofs.Counting.{prefix_len_of_le}
+use Rattle.lines.proofs.Counting.{prefix_len_of_le}
 use Rattle.octets.specs.Lists.{octet}
 use Rattle.lines.specs.Input.{Line}
 

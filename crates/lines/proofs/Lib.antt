@@ -1,3 +1,4 @@
+pub mod Counting
 mod DecimalLaws
 mod FieldLaws
 mod HexadecimalLaws

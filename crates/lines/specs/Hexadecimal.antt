@@ -1,7 +1,7 @@
 -- Octets in hexadecimal: two digits for each, in lower case.
 -- Assumes nothing.
 use Rattle.std.specs.Prelude.{◌≡◌, ℕ, ◌+◌, ◌*◌, ◌-◌, min, ◌||◌, cond, List, [], ◌∷◌, ◌++◌, eqb, leb, ltb, length, take, drop}
-use Rattle.io.specs.Counts.{IsPrefixLen}
+use Rattle.std.specs.Counts.{IsPrefixLen}
 
 -- what a digit stands for: 0 to 9 are the codes from 48 on, a to f those from 97 on; 16 where the character is none
 unfoldable pub digit_of : ℕ → ℕ

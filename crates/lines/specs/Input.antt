@@ -1,7 +1,7 @@
 -- A line that was read to the front of a list.
 -- Assumes nothing.
 use Rattle.std.specs.Prelude.{◌≡◌, ℕ, ◌+◌, ◌<◌, List, drop}
-use Rattle.io.specs.Counts.{IsPrefixLen}
+use Rattle.std.specs.Counts.{IsPrefixLen}
 use Rattle.octets.specs.Lists.{octet}
 
 -- n characters, of which only the last may be a line feed, whose code is 10; the list's others stay

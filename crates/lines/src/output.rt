@@ -1,25 +1,24 @@
 // What is written to the standard output. No contract can say which octets are written.
-use libc::STDOUT_FILENO;
+use std::io;
 
-pub fn print(text: &[u8]) {
-    io::write_all(STDOUT_FILENO, text);
+pub fn print(rt: &impl Print, text: &[u8]) -> io::Result<()> {
+    rt.write_all(text)
 }
 
 // A text and a number in decimal behind it.
-pub fn print_number(text: &[u8], n: u64) {
-    print(text);
-    io::print_decimal(STDOUT_FILENO, n);
+pub fn print_number(rt: &impl Print, text: &[u8], n: u64) -> io::Result<()> {
+    print(rt, text)?;
+    rt.print(n)
 }
 
-fn print_octet(octet: u8) {
-    io::print_hex(STDOUT_FILENO, octet as u64, 2);
+fn print_octet(rt: &impl Print, octet: u8) -> io::Result<()> {
+    print!(rt; "{octet:02x}")
 }
 
 // Octets in hexadecimal, one behind the other.
-pub fn print_octets(octets: &[u8]) {
-    let mut i: usize = 0;
-    while i < octets.len() {
-        print_octet(octets[i]);
-        i += 1;
+pub fn print_octets(rt: &impl Print, octets: &[u8]) -> io::Result<()> {
+    for octet in octets {
+        print_octet(rt, *octet)?;
     }
+    Ok(())
 }

@@ -10,7 +10,7 @@ use native.Mathlib.Omega.{arith}
 use borrow.Author.Tests.{lt-ltb}
 use lib.Dec.{ltb}
 use lib.ListN.{length, take}
-use lib.Seq.{take_all, take_nil}
+use lib.Seq.{take_all, take-nil}
 use Rattle.octets.specs.Lists.{octet, Octets}
 use Rattle.octets.specs.Numbers.{number_at}
 use Rattle.octets.proofs.Numbers.{number_at-lt}
@@ -70,7 +70,7 @@ module _ (image : List ℕ) (i n j : ℕ) where
 
   pub after_none : has_entry image i ≡ false → after_stores image i n j ≡ image
   unfolding after_stores stored
-  after_none e = rw (none e, take_nil)
+  after_none e = rw (none e, take-nil)
 
   -- j at least their number: the image after all of them
   pub after-all : length (stores_of (plan_for image i n)) ≤ j → after_stores image i n j ≡ stored image (stores_of (plan_for image i n))

@@ -27,7 +27,7 @@ pub fn is_field(line: &[u8], n: usize, octets: &[u8]) -> bool
 {
     let mut published = [0u8; 96];
     let count = read_octets(field(line, n), &mut published);
-    is_whole(line, n) & check::same(front(&published, count), octets)
+    is_whole(line, n) & (front(&published, count) == octets)
 }
 
 pub fn is_empty(line: &[u8], n: usize) -> bool

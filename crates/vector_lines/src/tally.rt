@@ -2,6 +2,7 @@
 ghost use Rattle.std.specs.Prelude.{◌≡◌, cond, ◌+◌, min};
 
 use lines::{print, print_number};
+use std::io;
 
 #[derive(Clone, Copy)]
 pub struct Tally {
@@ -37,12 +38,12 @@ impl Tally {
     }
 
     // Writes a line as `ECBGFSbox256: 5 encryptions, 0 differ`.
-    pub fn print(self, name: &[u8], what: &[u8]) {
-        print(name);
-        print_number(b": ", self.ran);
-        print(b" ");
-        print(what);
-        print_number(b", ", self.differ);
-        print(b" differ\n");
+    pub fn print(self, rt: &impl Print, name: &[u8], what: &[u8]) -> io::Result<()> {
+        print(rt, name)?;
+        print_number(rt, b": ", self.ran)?;
+        print(rt, b" ")?;
+        print(rt, what)?;
+        print_number(rt, b", ", self.differ)?;
+        print(rt, b" differ\n")
     }
 }

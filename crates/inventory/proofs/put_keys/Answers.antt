@@ -1,7 +1,6 @@
 -- `put_keys` is right because each turn puts what is told of the next key behind what is told of those before it.
 -- Assumes nothing.
 use mathlib.Core.Path.{◌≡◌}
-use Prim.Native.Nat.{◌-◌}
 use native.Mathlib.Omega.{arith}
 use borrow.Author.Rules.{rules}
 use Rattle.writing.proofs.Ends.{end_none, end_more, end_within}

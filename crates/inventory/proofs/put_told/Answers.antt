@@ -9,21 +9,21 @@ use lib.ListN.{length}
 use Rattle.writing.specs.Output.{Put}
 use Rattle.writing.proofs.Puts.{put_none}
 use Rattle.inventory.specs.Inventory.{told_of, told_between}
+use Rattle.inventory.proofs.put_told.Goals.{After-told_of}
 use Rattle.inventory.proofs.put_told.Goals as goal
 
-told : (c : tie.After-told-of) → let g = c.before.before.before.before.before.before.args in
-    c.told_of.result ≡ told_between g.image.now g.at g.first g.last g.index
+told : (c : After-told_of) → let g = c.args in c.told_of.result ≡ told_between g.image.now g.at g.first g.last g.index
 told c =
-    let hit = c.before.before in
-    let g = hit.before.before.before.before.args in
-    c.told_of.ensures ∙ ap (λ (t : Bool). cond t (told_of g.image.now g.at g.index) []) (sym hit.if1.true ∙ hit.before.is-between.ensures)
+    let g = c.args in
+    c.told_of.ensures
+    ∙ ap (λ (t : Bool). cond t (told_of g.image.now g.at g.index) []) (sym c.if-is_between.true ∙ c.is_between.ensures)
 
 pub put_text-requires : goal.put_text-requires
 put_text-requires c = omega (arith, ap length (told (goal.at.put_text-requires c).After-told_of))
 
 pub returns-then-is_between : goal.returns-then-is_between
 returns-then-is_between c = let g = c.args in
-    subst (λ (t : List ℕ). Put g.out.now g.place t c.put_text.new.0 c.put_text.result) (told (goal.at.returns-then-is_between c).After-told_of) c.put_text.ensures
+    subst (λ (t : List ℕ). Put g.out.now g.place t c.put_text.new.out c.put_text.result) (told (goal.at.returns-then-is_between c).After-told_of) c.put_text.ensures
 
 pub returns : goal.returns
 returns c = let g = c.args in

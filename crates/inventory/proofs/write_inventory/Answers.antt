@@ -42,6 +42,6 @@ put_keys-requires c = let g = c.args in
 pub returns : goal.returns
 returns c = let g = c.args in
     let told : List ℕ = end_to_end g.count (told_between g.image.now g.at g.first g.last) in
-    subst (λ (t : List ℕ). c.put_keys.new.0 ≡ fronted t g.output.now)
+    subst (λ (t : List ℕ). c.put_keys.new.out ≡ fronted t g.output.now)
     (ap (λ (t : List ℕ). t ++ told) (opened (goal.at.returns c).After-opening) ∙ sym (reply_pieces g.image.now g.at g.first g.last g.count))
     (put_fronted (put_then c.put_text-behind.ensures c.put_keys.ensures))

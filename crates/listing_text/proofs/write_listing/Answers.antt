@@ -6,10 +6,11 @@ use native.Mathlib.Omega.{arith}
 use lib.ListN.{length}
 use lib.Seq.{length-take-le}
 use Rattle.listing_text.proofs.Lengths.{longest}
+use Rattle.listing_text.proofs.write_listing.Goals.{After-put_listing-count}
 use Rattle.listing_text.proofs.write_listing.Goals as goal
 
-within : (c : tie.After-put-listing) → c.put-listing.result ≤ length c.put-listing.new.1.0
-within c = omega (arith, longest c.before.before.before.before.args.image.now)
+within : (c : After-put_listing-count) → c.put_listing-count.result ≤ length c.put_listing-count.new.out
+within c = omega (arith, longest c.args.image.now)
 
 pub slice_bounds-copy_front-end : goal.slice_bounds-copy_front-end
 slice_bounds-copy_front-end c = sym (length-take-le _ _ (within (goal.at.slice_bounds-copy_front-end c).After-put_listing-count))

@@ -1,7 +1,6 @@
 -- `channels_right` is right because each turn joins the test of one channel more to those before it.
 -- Assumes nothing.
 use mathlib.Core.Path.{◌≡◌, refl}
-use Prim.Native.Nat.{◌-◌}
 use native.Mathlib.Numerals.{add-one}
 use native.Mathlib.Omega.{arith}
 use Rattle.octets.specs.Lists.{all}

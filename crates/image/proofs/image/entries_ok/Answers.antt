@@ -9,7 +9,7 @@ use native.Mathlib.Numerals.{add-one}
 use borrow.Author.Tests.{ne_eqb}
 use Rattle.octets.specs.Lists.{all}
 use Rattle.image.specs.Image.{count_of, spi_of, spi_before, body_at, body_of}
-use Rattle.image.proofs.ValidImages.{laid_out}
+use Rattle.image.proofs.ValidImages.{laid_out_lem}
 use Rattle.image.proofs.Places.{body-inside, entry-inside, body_placed}
 use borrow.Author.Rules.{rules}
 use Rattle.image.proofs.image.entries_ok.Goals as goal
@@ -25,7 +25,7 @@ pub entry_ok-requires : goal.entry_ok-requires
 entry_ok-requires c = let image = c.args.image.now in
     let i = c.loop-i.i in
     let within : i < count_of image = omega arith in (
-      entry-inside image (laid_out image c.requires) i within,
+      entry-inside image (laid_out_lem image c.requires) i within,
       c.loop-i.invariant.1,
       c.body_place-at.ensures.0 ∙ body_placed image _ _ i _ c.layout_of-layout.ensures.0 c.version_of-version.ensures c.count_of-count.ensures,
     )
@@ -35,13 +35,13 @@ body_inside_ok-requires c = let image = c.args.image.now in
     let i = c.loop-i.i in
     let within : i < count_of image = omega arith in
     let at : c.body_place-at.result ≡ body_at image i = c.body_place-at.ensures.0 ∙ body_placed image _ _ i _ c.layout_of-layout.ensures.0 c.version_of-version.ensures c.count_of-count.ensures in
-    rw (at, c.version_of-version.ensures) (body-inside image (laid_out image c.requires) i within)
+    rw (at, c.version_of-version.ensures) (body-inside image (laid_out_lem image c.requires) i within)
 
 pub spi_inside-before-requires : goal.spi_inside-before-requires
 spi_inside-before-requires c = let image = c.args.image.now in
     let i = c.loop-i.i in
     let within : i < count_of image = omega arith in
-    entry-inside image (laid_out image c.requires) i within
+    entry-inside image (laid_out_lem image c.requires) i within
 
 pub loop-i-preserved : goal.loop-i-preserved
 unfolding all body_of

@@ -1,7 +1,6 @@
 -- `put_lines` is right because each turn puts the line of the next entry behind those before it, and a valid image's lines have room.
 -- Assumes nothing.
 use mathlib.Core.Path.{◌≡◌}
-use Prim.Native.Nat.{◌-◌}
 use native.Mathlib.Omega.{arith}
 use borrow.Author.Rules.{rules}
 use Rattle.image.specs.Image.{count_of}

@@ -1,7 +1,6 @@
 -- `loaded_numbers` is right because each turn loads one entry more, and the mark of a valid image is small enough for its number.
 -- Assumes nothing.
 use mathlib.Core.Path.{◌≡◌}
-use Prim.Native.Nat.{◌-◌}
 use borrow.Author.Rules.{rules}
 use native.Mathlib.Omega.{arith}
 use Rattle.image.specs.Image.{count_of}

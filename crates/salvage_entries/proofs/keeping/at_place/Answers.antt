@@ -1,6 +1,5 @@
 -- `at_place` is right because each turn joins the test of one place more.
 -- Assumes nothing.
-use Prim.Native.Nat.{◌-◌}
 use Rattle.salvage_entries.proofs.TestLaws.{rule-none, rule_turn, rule_end}
 use borrow.Author.Rules.{rules}
 use Rattle.salvage_entries.proofs.keeping.at_place.Goals as goal

@@ -1,6 +1,5 @@
 -- `has_spi` is right because each turn joins the test of one entry more.
 -- Assumes nothing.
-use Prim.Native.Nat.{◌-◌}
 use Rattle.salvage_entries.proofs.TestLaws.{some-none, some_turn, some_end}
 use borrow.Author.Rules.{rules}
 use Rattle.salvage_entries.proofs.keeping.has_spi.Goals as goal

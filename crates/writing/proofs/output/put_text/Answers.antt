@@ -1,6 +1,5 @@
 -- `put_text` is right because each turn puts the next octet of the text behind those before it.
 -- Assumes nothing.
-use Prim.Native.Nat.{◌-◌}
 use lib.Seq.{take_all}
 use borrow.Author.Rules.{rules}
 use Rattle.writing.proofs.Puts.{put_none, put_more}

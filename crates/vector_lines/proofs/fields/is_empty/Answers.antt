@@ -5,11 +5,10 @@ use mathlib.Core.Path.{ap}
 use Prim.Native.Nat.{ℕ}
 use lib.Dec.{eqb}
 use lib.ListN.{length}
-use Rattle.vector_lines.proofs.fields.is_empty.Statement.{statement}
-use Rattle.vector_lines.proofs.fields.is_empty.Tie as tie
+use Rattle.vector_lines.proofs.fields.is_empty.Goals as goal
 
-returns : tie.Need-returns
+pub returns : goal.returns
 returns c = ap (λ (s : List ℕ). eqb (length s) 0) c.field.ensures
 
-pub is_empty_spec : {M : Type 1} → statement M
-is_empty_spec = tie.close (tie.spec (λ c κs. tt) returns)
+pub field-requires : goal.field-requires
+field-requires c = tt
