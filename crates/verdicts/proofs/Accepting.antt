@@ -3,7 +3,7 @@
 -- Assumes nothing.
 use Prim.Native.Nat.{ℕ, zero, suc, ◌+◌, ◌*◌, ◌<◌}
 use mathlib.Core.Path.{◌≡◌}
-use mathlib.Core.Bool.{true, false, ◌&&◌, and_true, and-false}
+use mathlib.Core.Bool.{true, false, ◌&&◌, and-true, and-false}
 use native.Mathlib.Nat.{zero-add, zero-mul, suc-mul}
 use native.Mathlib.Omega.{arith}
 use borrow.Author.Tests.{le-leb, lt-leb, ne_eqb}
@@ -15,7 +15,7 @@ pub accepts_parts : (last window above n : ℕ) → n < 4294967296
     → ((eqb above 0 && ltb last n) && leb n (last + window)) ≡ accepts last window (above * 4294967296 + n)
 accepts_parts last window zero n h =
     let small : leb n 4294967295 ≡ true = le-leb n 4294967295 (omega arith) in
-    rw (zero-mul, zero-add, small, and_true)
+    rw (zero-mul, zero-add, small, and-true)
 accepts_parts last window (suc above) n h =
     let many : ℕ = suc above * 4294967296 + n in
     let more : 4294967295 < many = rw suc-mul (omega arith) in

@@ -1,55 +1,40 @@
 -- `check_telling` is right because a frame that is not admitted is refused as its first test says, and no number is told; another is checked
 -- under its entry, whose number is read in the numbers that the check left.
 -- Assumes nothing.
-use mathlib.Core.Path.{ap, ◌∙◌, subst}
+use mathlib.Core.Path.{ap, ◌∙◌}
 use mathlib.Core.Bool.{true}
 use lib.ListN.{length}
 use Rattle.judging.specs.Wants.{checking_wants}
 use Rattle.link.specs.Calls.{left, comparison, checking_reply, checked_as, checked}
 use Rattle.judging.specs.Replies.{Reply}
-use Rattle.judging.specs.Verdicts.{Admitted}
-use Rattle.judging.specs.declared.verdict.Admission.{Admission}
 use Rattle.link.proofs.Carried.{carried_refusal}
 use Rattle.judging.proofs.Admitting.{admitted_obeys}
 use Rattle.link.proofs.Under.{checking-refused, checking_under, told_none, told_under}
-use Rattle.checking.proofs.check_telling.Goals.{Start}
 use Rattle.checking.proofs.check_telling.Goals as goal
-
-abbrev start : tie.After-admit-receiving → Start
-start c = c.before.before.before.before.before.before
-
-abbrev reply : tie.After-admit-receiving → Reply
-reply c =
-    let g = (start c).args in
-    let right = comparison g.image.now g.numbers.last g.said g.frame.now in
-    checking_reply right g.image.now g.numbers.last g.said g.frame.now (length g.output.now)
-
-abbrev told : tie.After-admit-receiving → Admission → Type 0
-told c a =
-    let g = (start c).args in
-    Admitted a g.image.now g.numbers.last (checking_wants g.said g.frame.now) g.said true g.frame.now
 
 pub returns-in-Refused : goal.returns-in-Refused
 unfolding checked checked_as
-returns-in-Refused c = let g = (start (goal.at.returns-in-Refused c).After-admit_receiving-admission).args in
-    let r = subst (told (goal.at.returns-in-Refused c).After-admit_receiving-admission) c.in-Refused.is c.admit_receiving-admission.ensures in record {
-      output_after = carried_refusal (reply (goal.at.returns-in-Refused c).After-admit_receiving-admission) g.image.now g.output.now _ g.numbers _
+returns-in-Refused c = let g = c.args in
+    let r = c.in-Refused.ensures in
+    let right = comparison g.image.now g.numbers.last g.said g.frame.now in
+    let reply = checking_reply right g.image.now g.numbers.last g.said g.frame.now (length g.output.now) in record {
+      output_after = carried_refusal reply g.image.now g.output.now _ g.numbers _
           (checking-refused g.image.now g.numbers.last g.said g.frame.now (length g.output.now) _ r)
           c.refused.ensures;
       number_value = told_none g.image.now g.numbers.last g.said g.frame.now _ _ r;
     }
 
 pub check_under-outcome-requires : goal.check_under-outcome-requires
-check_under-outcome-requires c = let g = (start (goal.at.check_under-outcome-requires c).After-admit_receiving-admission).args in record {
-  lent = (start (goal.at.check_under-outcome-requires c).After-admit_receiving-admission).requires;
+check_under-outcome-requires c = let g = c.args in record {
+  lent = c.requires;
   true_value = admitted_obeys g.image.now g.numbers.last (checking_wants g.said g.frame.now) g.said g.frame.now true _ _
-      (subst (told (goal.at.check_under-outcome-requires c).After-admit_receiving-admission) c.in-To.is c.admit_receiving-admission.ensures);
+      c.in-To.ensures;
 }
 
 pub returns-in-To : goal.returns-in-To
 unfolding checked checked_as
-returns-in-To c = let g = (start (goal.at.returns-in-To c).After-admit_receiving-admission).args in
-    let r = subst (told (goal.at.returns-in-To c).After-admit_receiving-admission) c.in-To.is c.admit_receiving-admission.ensures in record {
+returns-in-To c = let g = c.args in
+    let r = c.in-To.ensures in record {
       output_after = c.check_under-outcome.ensures
           ∙ ap (λ (q : Reply). left q g.image.now g.numbers.last g.output.now)
           (checking_under g.image.now g.numbers.last g.said g.frame.now (length g.output.now) _ _ r);

@@ -1,9 +1,9 @@
 -- `judge_sending` is right because it asks the definition's tests in their order, and each way out is the first that applies.
 -- Assumes nothing.
--- ---- what the calls say of the frame
 use mathlib.Core.Path.{◌≡◌, refl, sym, ap, ◌∙◌}
+use mathlib.Core.Bool.{true, false}
 use mathlib.Core.List.{List}
-use Prim.Native.Nat.{ℕ}
+use Prim.Native.Nat.{ℕ, ◌≤◌, ◌<◌}
 use native.Mathlib.Omega.{arith}
 use borrow.Author.Tests.{lt-ltb, le-ltb, le-leb, lt-leb}
 use lib.ListN.{drop}
@@ -19,23 +19,22 @@ use Rattle.judging.specs.Replies.{sending_tests}
 use Rattle.judging.specs.declared.answers.Answer.TheVariants as answer
 use Rattle.judging.proofs.First.{none_left, applies, passes}
 use Rattle.judging.proofs.Admitting.{refuses}
-use Rattle.verdicts.proofs.sending.judge_sending.Goals.{After-exceeds, Else-exceeds, Else-last-eq-GREATEST, Else-room-size, Start}
+use Rattle.verdicts.proofs.sending.judge_sending.Goals.{After-exceeds}
 use Rattle.verdicts.proofs.sending.judge_sending.Goals as goal
 
-abbrev start : After-exceeds → Start
-start c = (c AT Start)
+-- ---- what the calls say of the frame
 
 abbrev held : After-exceeds → Held
-held c = (start c).args.held
+held c = c.args.held
 
 abbrev kind : After-exceeds → Kind
-kind c = framed (start c).args.framing
+kind c = framed c.args.framing
 
 abbrev frame : After-exceeds → List ℕ
-frame c = (start c).args.frame.now
+frame c = c.args.frame.now
 
 abbrev tests : After-exceeds → List Test
-tests c = sending_tests (held c) (start c).args.last (kind c) (frame c) (start c).args.room
+tests c = sending_tests (held c) c.args.last (kind c) (frame c) c.args.room
 
 security : (c : After-exceeds) → c.security_length-security.result ≡ security_length (held c)
 security c = c.security_length-security.ensures.0
@@ -49,34 +48,39 @@ exceeding c = c.exceeds.ensures ∙ ap (λ (s : ℕ). parts.exceeds (kind c) s (
 -- ---- 11
 
 pub returns-then-exceeds : goal.returns-then-exceeds
-returns-then-exceeds c = refuses answer.TooLong _ 11 refl (omega arith) (applies 11 _ _ (sym (exceeding (goal.at.returns-then-exceeds c).After-exceeds) ∙ c.if-exceeds.true))
+returns-then-exceeds c = let d = (goal.at.returns-then-exceeds c).After-exceeds in
+    refuses answer.TooLong _ 11 refl (omega arith) (applies 11 _ _ (sym (exceeding d) ∙ c.if-exceeds.true))
 
-past-11 : (c : Else-exceeds) → first (tests (c AT After-exceeds)) ≡ first (drop 1 (tests (c AT After-exceeds)))
-past-11 c = passes 11 _ _ (sym (exceeding (c AT After-exceeds)) ∙ c.if-exceeds.false)
+past-11 : (c : After-exceeds) → c.exceeds.result ≡ false → first (tests c) ≡ first (drop 1 (tests c))
+past-11 c e = passes 11 _ _ (sym (exceeding c) ∙ e)
 
 -- ---- 6
 
 pub returns-then-room-size : goal.returns-then-room-size
-returns-then-room-size c = refuses answer.NoRoom _ 6 refl (omega arith)
-    (past-11 (goal.at.returns-then-room-size c).Else-exceeds ∙ applies 6 _ _ (lt-ltb (start (goal.at.returns-then-room-size c).After-exceeds).args.room (secured_length (held (goal.at.returns-then-room-size c).After-exceeds) (frame (goal.at.returns-then-room-size c).After-exceeds)) (omega (arith, sized (goal.at.returns-then-room-size c).After-exceeds))))
+returns-then-room-size c = let d = (goal.at.returns-then-room-size c).After-exceeds in
+    refuses answer.NoRoom _ 6 refl (omega arith)
+    (past-11 d c.if-exceeds.false ∙ applies 6 _ _ (lt-ltb d.args.room (secured_length (held d) (frame d)) (omega (arith, sized d))))
 
-past-6 : (c : Else-room-size) → first (tests (c AT After-exceeds)) ≡ first (drop 2 (tests (c AT After-exceeds)))
-past-6 c = past-11 (c AT Else-exceeds) ∙ passes 6 _ _ (le-ltb (start (c AT After-exceeds)).args.room (secured_length (held (c AT After-exceeds)) (frame (c AT After-exceeds))) (omega (arith, sized (c AT After-exceeds))))
+past-6 : (c : After-exceeds) → c.exceeds.result ≡ false → c.secured_length-size.result ≤ c.args.room
+    → first (tests c) ≡ first (drop 2 (tests c))
+past-6 c e l = past-11 c e ∙ passes 6 _ _ (le-ltb c.args.room (secured_length (held c) (frame c)) (omega (arith, sized c)))
 
 -- ---- 10
 
 pub returns-then-last-eq-GREATEST : goal.returns-then-last-eq-GREATEST
-returns-then-last-eq-GREATEST c = refuses answer.NumbersSpent _ 10 refl (omega arith)
-    (past-6 (goal.at.returns-then-last-eq-GREATEST c).Else-room-size ∙ applies 10 _ _ (le-leb 4294967295 (start (goal.at.returns-then-last-eq-GREATEST c).After-exceeds).args.last (omega arith)))
+returns-then-last-eq-GREATEST c = let d = (goal.at.returns-then-last-eq-GREATEST c).After-exceeds in
+    refuses answer.NumbersSpent _ 10 refl (omega arith)
+    (past-6 d c.if-exceeds.false c.if-room-size.false ∙ applies 10 _ _ (le-leb 4294967295 d.args.last (omega arith)))
 
-past-10 : (c : Else-last-eq-GREATEST) → first (tests (c AT After-exceeds)) ≡ 0
-past-10 c = past-6 (c AT Else-room-size) ∙ passes 10 _ _ (lt-leb 4294967295 (start (c AT After-exceeds)).args.last (omega arith)) ∙ none_left
+past-10 : (c : After-exceeds) → c.exceeds.result ≡ false → c.secured_length-size.result ≤ c.args.room → c.args.last < 4294967295
+    → first (tests c) ≡ 0
+past-10 c e l b = past-6 c e l ∙ passes 10 _ _ (lt-leb 4294967295 c.args.last b) ∙ none_left
 
 pub returns : goal.returns
-returns c = record {
-  answer = past-10 (goal.at.returns c).Else-last-eq-GREATEST;
+returns c = let d = (goal.at.returns c).After-exceeds in record {
+  answer = past-10 d c.if-exceeds.false c.if-room-size.false (omega arith);
   entry = refl;
   number = refl;
   stores = ap (λ (p : Plan). stores_of p) c.plan_for.ensures;
-  size = sized (goal.at.returns c).After-exceeds;
+  size = sized d;
 }
