@@ -34,9 +34,10 @@ slice_bounds-cut_under-start c = let g = c.args in
 
 pub returns-in-Refused : goal.returns-in-Refused
 returns-in-Refused c = let g = c.args in
-    cut-refusal (command_reply g.image.now g.numbers.last g.desk g.command.now g.room) g.image.now g.stores _
-    (command-refused g.image.now g.numbers.last g.desk g.command.now g.room _
-    (subst (Told g.image.now g.numbers.last g.desk g.command.now) c.in-Refused.is c.address_of-addressed.ensures))
+    let refused = subst (Told g.image.now g.numbers.last g.desk g.command.now) c.in-Refused.is c.address_of-addressed.ensures in
+    let made = cut-refusal (command_reply g.image.now g.numbers.last g.desk g.command.now g.room) g.image.now g.stores _
+    (command-refused g.image.now g.numbers.last g.desk g.command.now g.room _ refused) in
+    record { value = made.0; image_after = made.1 }
 
 pub returns-in-To : goal.returns-in-To
 returns-in-To c = let g = c.args in
