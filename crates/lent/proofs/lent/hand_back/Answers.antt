@@ -3,7 +3,6 @@
 -- an element that is right already
 use mathlib.Core.Path.{◌≡◌, ◌∙◌, refl, subst}
 use mathlib.Core.List.{List}
-use mathlib.Core.Logic.{⊎_elim}
 use Prim.Native.Nat.{ℕ, ◌+◌, ◌-◌, ◌<◌}
 use native.Mathlib.Omega.{arith}
 use lib.ListN.{length}
@@ -23,10 +22,10 @@ loop-i-init c = filled_none (search rules)
 pub loop-i-preserved : goal.loop-i-preserved
 loop-i-preserved c = let at-loop = c.loop-i in
     let test : at-loop.i < 32 = omega arith in
-    ⊎_elim
-    (λ w. rw w.1 (filled_more test refl at-loop.invariant))
-    (λ w. rw w.1 (filled-kept test w.0.left at-loop.invariant))
-    c.if-lent-i.branch
+    elim c.if-lent-last.branch [
+      then-lent-last w ↦ rw w.lent-is (filled_more test refl at-loop.invariant)
+      | else-lent-last w ↦ rw w.lent-is (filled-kept test w.if-lent-last.false at-loop.invariant)
+    ]
 
 pub returns : goal.returns
 returns c = let last = c.args.numbers.last in
