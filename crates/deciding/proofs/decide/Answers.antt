@@ -1,11 +1,12 @@
 -- `decide` is right because it asks the definition's tests in their order, and each way out is the first that applies.
 -- Assumes nothing.
 use mathlib.Core.Path.{◌≡◌, refl, sym, ap, ◌∙◌}
-use mathlib.Core.Bool.{not}
+use mathlib.Core.Bool.{true, false, not}
 use mathlib.Core.List.{List}
 use Prim.Native.Nat.{ℕ}
 use native.Mathlib.Omega.{arith}
 use borrow.Author.Tests.{lt-ltb, le-ltb, not-false}
+use lib.Dec.{ltb}
 use lib.ListN.{length, drop}
 use Rattle.bodies.specs.Body.{state_of}
 use Rattle.image.specs.Image.{version_of, body_of}
@@ -15,81 +16,97 @@ use Rattle.judging.proofs.Admitting.{refuses}
 use Rattle.judging.proofs.First.{none_left, applies, passes}
 use Rattle.procedures.specs.Procedures.{Procedure, procedure_is}
 use Rattle.deciding.specs.Deciding.{procedure_tests}
-use Rattle.deciding.proofs.decide.Goals.{After-asks, After-reply_size-size, Else-not-allowed, Else-not-asks, Else-not-key_known, Else-not-key_ready, Else-room-size, Start}
 use Rattle.deciding.proofs.decide.Goals as goal
 
-abbrev start : After-asks → Start
-start c = (c AT Start)
+module _ (p : Procedure) (image : List ℕ) (e last : ℕ) (value : List ℕ) (room : ℕ) where
+  abbrev body : List ℕ
+  body = body_of image e
 
-abbrev procedure : After-asks → Procedure
-procedure c = procedure_is (start c).args.procedure
+  abbrev tests : List Test
+  tests = procedure_tests p image e last value room
 
-abbrev body : After-asks → List ℕ
-body c = body_of (start c).args.image.now (start c).args.entry
+  -- ---- 15, 16, 17 and 18
 
-abbrev tests : After-asks → List Test
-tests c = let g = (start c).args in
-    procedure_tests (procedure c) g.image.now g.entry g.last g.value.now g.room
+  module _ (asked : not (p.asks (state_of body)) ≡ false) where
+    past-15 : first tests ≡ first (drop 1 tests)
+    past-15 = passes 15 _ _ asked
 
--- ---- 15
+    module _ (allowed : not (p.allows (version_of image) body last value) ≡ false) where
+      past-16 : first tests ≡ first (drop 2 tests)
+      past-16 = past-15 ∙ passes 16 _ _ allowed
 
-asked : (c : After-asks) → c.asks.result ≡ (procedure c).asks (state_of (body c))
-asked c = c.asks.ensures ∙ ap (procedure c).asks c.state_at.ensures
+      module _ (known : not (p.knows image e value) ≡ false) where
+        past-17 : first tests ≡ first (drop 3 tests)
+        past-17 = past-16 ∙ passes 17 _ _ known
 
-past-15 : (c : Else-not-asks) → first (tests (c AT After-asks)) ≡ first (drop 1 (tests (c AT After-asks)))
-past-15 c = passes 15 _ _ (ap not (sym (asked (c AT After-asks))) ∙ c.if-not-asks.false)
+        module _ (ready : not (p.ready image e value) ≡ false) where
+          past-18 : first tests ≡ first (drop 4 tests)
+          past-18 = past-17 ∙ passes 18 _ _ ready
 
--- ---- 16
+          -- ---- 6
 
-past-16 : (c : Else-not-allowed) → first (tests (c AT After-asks)) ≡ first (drop 2 (tests (c AT After-asks)))
-past-16 c = past-15 (c AT Else-not-asks) ∙ passes 16 _ _ (ap not (sym c.allowed.ensures) ∙ c.if-not-allowed.false)
-
--- ---- 17 and 18
-
-past-17 : (c : Else-not-key_known) → first (tests (c AT After-asks)) ≡ first (drop 3 (tests (c AT After-asks)))
-past-17 c = past-16 (c AT Else-not-allowed) ∙ passes 17 _ _ (ap not (sym c.key_known.ensures) ∙ c.if-not-key_known.false)
-
-past-18 : (c : Else-not-key_ready) → first (tests (c AT After-asks)) ≡ first (drop 4 (tests (c AT After-asks)))
-past-18 c = past-17 (c AT Else-not-key_known) ∙ passes 18 _ _ (ap not (sym c.key_ready.ensures) ∙ c.if-not-key_ready.false)
-
--- ---- 6
-
-sized : (c : tie.After-reply-size) → let d = c.before.before.before.before.before.before.before.before in
-    let g = (start d).args in
-    c.reply-size.result ≡ length ((procedure d).reply g.image.now g.entry g.last g.value.now)
-sized c =
-    let g = (start c.before.before.before.before.before.before.before.before).args in
-    c.reply-size.ensures g.entry g.last
-
-past-6 : (c : Else-room-size) → first (tests (c AT After-asks)) ≡ 0
-past-6 c = past-18 (c AT Else-not-key_ready) ∙ passes 6 _ _ (le-ltb (start (c AT After-asks)).args.room _ (omega (arith, sized (c AT After-reply_size-size)))) ∙ none_left
+          past-6 : ltb room (length (p.reply image e last value)) ≡ false → first tests ≡ 0
+          past-6 roomy = past-18 ∙ passes 6 _ _ roomy ∙ none_left
 
 pub returns-then-not-asks : goal.returns-then-not-asks
-returns-then-not-asks c = refuses answer.WrongState _ 15 refl (omega arith) (applies 15 _ _ (ap not (sym (asked (goal.at.returns-then-not-asks c).After-asks)) ∙ c.if-not-asks.true))
+returns-then-not-asks c = let g = c.args in
+    let p = procedure_is g.procedure in
+    let asked : p.asks (state_of (body_of g.image.now g.entry)) ≡ c.asks.result = sym (c.asks.ensures ∙ ap p.asks c.state_at.ensures) in
+    refuses answer.WrongState _ 15 refl (omega arith) (applies 15 _ _ (ap not asked ∙ c.if-not-asks.true))
 
 pub returns-then-not-allowed : goal.returns-then-not-allowed
-returns-then-not-allowed c = refuses answer.BadValue _ 16 refl (omega arith)
-    (past-15 (goal.at.returns-then-not-allowed c).Else-not-asks ∙ applies 16 _ _ (ap not (sym c.allowed.ensures) ∙ c.if-not-allowed.true))
+returns-then-not-allowed c = let g = c.args in
+    let p = procedure_is g.procedure in
+    let asked : p.asks (state_of (body_of g.image.now g.entry)) ≡ c.asks.result = sym (c.asks.ensures ∙ ap p.asks c.state_at.ensures) in
+    refuses answer.BadValue _ 16 refl (omega arith)
+    (past-15 p g.image.now g.entry g.last g.value.now g.room (ap not asked ∙ c.if-not-asks.false)
+    ∙ applies 16 _ _ (ap not (sym c.allowed.ensures) ∙ c.if-not-allowed.true))
 
 pub returns-then-not-key_known : goal.returns-then-not-key_known
-returns-then-not-key_known c = refuses answer.UnknownKey _ 17 refl (omega arith)
-    (past-16 (goal.at.returns-then-not-key_known c).Else-not-allowed ∙ applies 17 _ _ (ap not (sym c.key_known.ensures) ∙ c.if-not-key_known.true))
+returns-then-not-key_known c = let g = c.args in
+    let p = procedure_is g.procedure in
+    let asked : p.asks (state_of (body_of g.image.now g.entry)) ≡ c.asks.result = sym (c.asks.ensures ∙ ap p.asks c.state_at.ensures) in
+    refuses answer.UnknownKey _ 17 refl (omega arith)
+    (past-16 p g.image.now g.entry g.last g.value.now g.room (ap not asked ∙ c.if-not-asks.false)
+    (ap not (sym c.allowed.ensures) ∙ c.if-not-allowed.false)
+    ∙ applies 17 _ _ (ap not (sym c.key_known.ensures) ∙ c.if-not-key_known.true))
 
 pub returns-then-not-key_ready : goal.returns-then-not-key_ready
-returns-then-not-key_ready c = refuses answer.WrongKeyState _ 18 refl (omega arith)
-    (past-17 (goal.at.returns-then-not-key_ready c).Else-not-key_known ∙ applies 18 _ _ (ap not (sym c.key_ready.ensures) ∙ c.if-not-key_ready.true))
+returns-then-not-key_ready c = let g = c.args in
+    let p = procedure_is g.procedure in
+    let asked : p.asks (state_of (body_of g.image.now g.entry)) ≡ c.asks.result = sym (c.asks.ensures ∙ ap p.asks c.state_at.ensures) in
+    refuses answer.WrongKeyState _ 18 refl (omega arith)
+    (past-17 p g.image.now g.entry g.last g.value.now g.room (ap not asked ∙ c.if-not-asks.false)
+    (ap not (sym c.allowed.ensures) ∙ c.if-not-allowed.false)
+    (ap not (sym c.key_known.ensures) ∙ c.if-not-key_known.false)
+    ∙ applies 18 _ _ (ap not (sym c.key_ready.ensures) ∙ c.if-not-key_ready.true))
 
 pub returns-then-room-size : goal.returns-then-room-size
-returns-then-room-size c = refuses answer.NoRoom _ 6 refl (omega arith)
-    (past-18 (goal.at.returns-then-room-size c).Else-not-key_ready ∙ applies 6 _ _ (lt-ltb (start (goal.at.returns-then-room-size c).After-asks).args.room _ (omega (arith, sized (goal.at.returns-then-room-size c).After-reply_size-size))))
+returns-then-room-size c = let g = c.args in
+    let p = procedure_is g.procedure in
+    let asked : p.asks (state_of (body_of g.image.now g.entry)) ≡ c.asks.result = sym (c.asks.ensures ∙ ap p.asks c.state_at.ensures) in
+    let sized : c.reply_size-size.result ≡ length (p.reply g.image.now g.entry g.last g.value.now) = c.reply_size-size.ensures g.entry g.last in
+    refuses answer.NoRoom _ 6 refl (omega arith)
+    (past-18 p g.image.now g.entry g.last g.value.now g.room (ap not asked ∙ c.if-not-asks.false)
+    (ap not (sym c.allowed.ensures) ∙ c.if-not-allowed.false)
+    (ap not (sym c.key_known.ensures) ∙ c.if-not-key_known.false)
+    (ap not (sym c.key_ready.ensures) ∙ c.if-not-key_ready.false)
+    ∙ applies 6 _ _ (lt-ltb g.room _ (omega arith)))
 
 pub returns : goal.returns
-returns c = let g = (start (goal.at.returns c).After-asks).args in
-    let number = c.new_number-number.ensures (version_of g.image.now) (body (goal.at.returns c).After-asks) (sym c.allowed.ensures ∙ not-false _ c.if-not-allowed.false) in
+returns c = let g = c.args in
+    let p = procedure_is g.procedure in
+    let asked : p.asks (state_of (body_of g.image.now g.entry)) ≡ c.asks.result = sym (c.asks.ensures ∙ ap p.asks c.state_at.ensures) in
+    let sized : c.reply_size-size.result ≡ length (p.reply g.image.now g.entry g.last g.value.now) = c.reply_size-size.ensures g.entry g.last in
+    let number = c.new_number-number.ensures (version_of g.image.now) (body_of g.image.now g.entry) (sym c.allowed.ensures ∙ not-false _ c.if-not-allowed.false) in
     record {
-      answer = past-6 (goal.at.returns c).Else-room-size;
+      answer = past-6 p g.image.now g.entry g.last g.value.now g.room (ap not asked ∙ c.if-not-asks.false)
+        (ap not (sym c.allowed.ensures) ∙ c.if-not-allowed.false)
+        (ap not (sym c.key_known.ensures) ∙ c.if-not-key_known.false)
+        (ap not (sym c.key_ready.ensures) ∙ c.if-not-key_ready.false)
+        (le-ltb g.room _ (omega arith));
       entry = refl;
       number = number;
-      stores = c.plan_of.ensures ∙ ap (λ (n : ℕ). (procedure (goal.at.returns c).After-asks).stores g.image.now g.entry n g.value.now) number;
-      size = sized (goal.at.returns c).After-reply_size-size;
+      stores = c.plan_of.ensures ∙ ap (λ (n : ℕ). p.stores g.image.now g.entry n g.value.now) number;
+      size = sized;
     }

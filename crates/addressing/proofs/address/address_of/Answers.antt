@@ -6,23 +6,18 @@ use Rattle.judging.specs.declared.answers.Answer.TheVariants as answer
 use Rattle.judging.proofs.Admitting.{refuses}
 use Rattle.judging.proofs.Standings.{broken, disagreeing, standing_well}
 use Rattle.addressing.proofs.Passing.{by_1, by_2}
-use Rattle.addressing.proofs.address.address_of.Goals.{Start}
 use Rattle.addressing.proofs.address.address_of.Goals as goal
 
-abbrev start : tie.After-test-standing → Start
-start c = c.before.before.before
-
 pub address_within-requires : goal.address_within-requires
-address_within-requires c = let g = (start (goal.at.address_within-requires c).After-test_standing-standing).args in
-    standing_well g.image.now g.numbers.last (sym c.test_standing-standing.ensures ∙ c.in-Good.is)
+address_within-requires c = standing_well c.args.image.now c.args.numbers.last (sym c.test_standing-standing.ensures ∙ c.in-Good.is)
 
 pub returns-in-BadImage : goal.returns-in-BadImage
-returns-in-BadImage c = let g = (start (goal.at.returns-in-BadImage c).After-test_standing-standing).args in
+returns-in-BadImage c = let g = c.args in
     refuses answer.BadImage _ 1 refl (omega arith)
     (by_1 g.image.now g.numbers.last g.desk g.command.now
     (broken g.image.now g.numbers.last (sym c.test_standing-standing.ensures ∙ c.in-BadImage.is)))
 
 pub returns-in-BadMarks : goal.returns-in-BadMarks
-returns-in-BadMarks c = let g = (start (goal.at.returns-in-BadMarks c).After-test_standing-standing).args in
+returns-in-BadMarks c = let g = c.args in
     let w = disagreeing g.image.now g.numbers.last (sym c.test_standing-standing.ensures ∙ c.in-BadMarks.is) in
     refuses answer.BadMarks _ 2 refl (omega arith) (by_2 g.image.now g.numbers.last g.desk g.command.now w.0 w.1)

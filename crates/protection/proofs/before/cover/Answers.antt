@@ -5,7 +5,6 @@ use Prim.Native.Nat.{ℕ, ◌+◌}
 use native.Mathlib.Omega.{arith}
 use Rattle.kinds.specs.Kinds.{framed}
 use Rattle.protection.proofs.Covering.{covered}
-use borrow.Author.Rules.{rules}
 use Rattle.protection.proofs.before.cover.Goals as goal
 
 pub returns : goal.returns
@@ -13,10 +12,6 @@ returns c = let g = c.args in
     let h = c.header_length-header in record {
       value = ap (λ (x : ℕ). x + g.security) h.ensures;
       out_after = c.put_behind.ensures
-          ∙ covered (framed g.framing) g.t2 g.frame.now g.out.now h.result g.security h.ensures
-          (omega (arith, h.ensures)) (omega (arith, h.ensures)) c.mask_header.new.1.1.1.0 c.mask_header.ensures.1;
+          ∙ covered (framed g.framing) g.mask g.frame.now g.out.now h.result g.security h.ensures
+          (omega (arith, h.ensures)) (omega (arith, h.ensures)) c.mask_header.new.out c.mask_header.ensures.1;
     }
-
-pub slice_bounds-put_behind-count : goal.slice_bounds-put_behind-count
-slice_bounds-put_behind-count c = search
-    rules
