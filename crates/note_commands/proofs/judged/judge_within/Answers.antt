@@ -67,11 +67,10 @@ pub returns : goal.returns
 returns c =
     let g = c.args in
     let log = lent_log g.log g.events.now in
-    let size = sized log g.desk g.command.now g.room c.octet_at-tag.ensures c.reply_size-size.ensures in
-    (
+    let size = sized log g.desk g.command.now g.room c.octet_at-tag.ensures c.reply_size-size.ensures in (
       past-13 log g.desk g.command.now g.room c.octet_at-tag.ensures c.wrong_desk.ensures c.if-wrong_desk.false c.bare.ensures
-      c.if-not-bare.false
-      ∙ passes 6 _ _ (le-ltb g.room _ (omega (arith, size)))
-      ∙ none_left,
+          c.if-not-bare.false
+          ∙ passes 6 _ _ (le-ltb g.room _ (omega (arith, size)))
+          ∙ none_left,
       size,
     )
