@@ -1,6 +1,9 @@
 // A file of vectors, a line each.
 use crate::blocks::{is_encryption, is_word};
 use lines::read_line;
+use std::io::Read;
+use std::rt::Files;
+use std::{fs, io};
 use vector_lines::Tally;
 
 // What is tested of a line.
@@ -18,28 +21,29 @@ fn is_right(test: Test, n: u64, line: &[u8]) -> bool {
 }
 
 // A proved loop has to end, and nothing says that a file does: the bound is a number of lines that no file has.
-fn run_lines(fd: i32, test: Test) -> Tally {
+fn run_lines(file: &mut impl Read, test: Test) -> io::Result<Tally> {
     let mut tally = Tally::none();
     let mut n: u64 = 0;
     while n < u64::MAX {
         let mut line = [0u8; 640];
-        let count = read_line(fd, &mut line);
+        let count = read_line(file, &mut line)?;
         if count == 0 {
-            return tally;
+            return Ok(tally);
         }
         tally = tally.with(is_right(test, n, &line[..count]));
         n += 1;
     }
-    tally
+    Ok(tally)
 }
 
 // Runs a file, and writes how many vectors it ran and how many differ.
-pub(crate) fn run(test: Test, path: &[u8], name: &[u8], what: &[u8]) {
-    let fd = os::open_read(path);
-    if fd < 0 {
-        os::fail(path);
-        return;
-    }
-    run_lines(fd, test).print(name, what);
-    libc::close(fd);
+pub(crate) fn run(
+    rt: &(impl Files + Print),
+    test: Test,
+    path: &str,
+    name: &[u8],
+    what: &[u8],
+) -> io::Result<()> {
+    let mut file = fs::open(rt, path)?;
+    run_lines(&mut file, test)?.print(rt, name, what)
 }

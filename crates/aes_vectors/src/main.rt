@@ -5,32 +5,34 @@ mod blocks;
 mod files;
 
 use files::{Test, run};
+use std::io;
+use std::rt::Files;
 
-fn encryptions(path: &[u8], name: &[u8]) {
-    run(Test::Encryption, path, name, b"encryptions");
+fn encryptions(rt: &(impl Files + Print), path: &str, name: &[u8]) -> io::Result<()> {
+    run(rt, Test::Encryption, path, name, b"encryptions")
 }
 
 // The appendices of FIPS 197.
-fn appendices() {
-    run(Test::Word, b"FIPS197A3.txt", b"FIPS 197 A.3", b"words");
-    encryptions(b"FIPS197C3.txt", b"FIPS 197 C.3");
+fn appendices(rt: &(impl Files + Print)) -> io::Result<()> {
+    run(rt, Test::Word, "FIPS197A3.txt", b"FIPS 197 A.3", b"words")?;
+    encryptions(rt, "FIPS197C3.txt", b"FIPS 197 C.3")
 }
 
 // NIST's four files of known answers.
-fn known_answers() {
-    encryptions(b"ECBGFSbox256.txt", b"ECBGFSbox256");
-    encryptions(b"ECBKeySbox256.txt", b"ECBKeySbox256");
-    encryptions(b"ECBVarTxt256.txt", b"ECBVarTxt256");
-    encryptions(b"ECBVarKey256.txt", b"ECBVarKey256");
+fn known_answers(rt: &(impl Files + Print)) -> io::Result<()> {
+    encryptions(rt, "ECBGFSbox256.txt", b"ECBGFSbox256")?;
+    encryptions(rt, "ECBKeySbox256.txt", b"ECBKeySbox256")?;
+    encryptions(rt, "ECBVarTxt256.txt", b"ECBVarTxt256")?;
+    encryptions(rt, "ECBVarKey256.txt", b"ECBVarKey256")
 }
 
 // NIST's file of messages of several blocks.
-fn messages() {
-    encryptions(b"ECBMMT256.txt", b"ECBMMT256");
+fn messages(rt: &(impl Files + Print)) -> io::Result<()> {
+    encryptions(rt, "ECBMMT256.txt", b"ECBMMT256")
 }
 
-fn main() {
-    appendices();
-    known_answers();
-    messages();
+fn main(rt: HostRuntime) -> io::Result<()> {
+    appendices(&rt)?;
+    known_answers(&rt)?;
+    messages(&rt)
 }

@@ -5,32 +5,29 @@ mod macs;
 
 use lines::read_line;
 use macs::is_example;
+use std::io::Read;
+use std::{fs, io};
 use vector_lines::Tally;
 
-const PATH: [u8; 12] = *b"SP80038B.txt";
+const PATH: &str = "SP80038B.txt";
 
 // A proved loop has to end, and nothing says that a file does: the bound is a number of lines that no file has.
-fn run_lines(fd: i32) -> Tally {
+fn run_lines(file: &mut impl Read) -> io::Result<Tally> {
     let mut tally = Tally::none();
     let mut n: u64 = 0;
     while n < u64::MAX {
         let mut line = [0u8; 640];
-        let count = read_line(fd, &mut line);
+        let count = read_line(file, &mut line)?;
         if count == 0 {
-            return tally;
+            return Ok(tally);
         }
         tally = tally.with(is_example(&line[..count]));
         n += 1;
     }
-    tally
+    Ok(tally)
 }
 
-fn main() {
-    let fd = os::open_read(&PATH);
-    if fd < 0 {
-        os::fail(&PATH);
-        return;
-    }
-    run_lines(fd).print(b"SP 800-38B", b"MACs");
-    libc::close(fd);
+fn main(rt: HostRuntime) -> io::Result<()> {
+    let mut file = fs::open(&rt, PATH)?;
+    run_lines(&mut file)?.print(&rt, b"SP 800-38B", b"MACs")
 }

@@ -10,7 +10,7 @@ use native.Mathlib.Omega.{arith}
 use borrow.Author.Tests.{eqb-true, not-true}
 use lib.Dec.{eqb}
 use lib.ListN.{length, set, take}
-use lib.Seq.{take_nil, set-get_or}
+use lib.Seq.{take-nil, set-get_or}
 use Rattle.octets.specs.Lists.{octet, Octets}
 use Rattle.octets.proofs.Alls.{and_right}
 use Rattle.marks.specs.Stores.{stored}
@@ -69,7 +69,7 @@ pub record Does (p : Procedure) (image last : List ℕ) (i : ℕ) (value : List 
 
 stored-none : (image : List ℕ) (j : ℕ) → stored image (take j []) ≡ image
 unfolding stored
-stored-none image j = rw (take_nil {A = Store} j)
+stored-none image j = rw (take-nil {A = Store} j)
 
 module _ (p : Procedure) (image last : List ℕ) (i : ℕ) (value : List ℕ) (r : Ready p image last i value)
     (empty : stores_of p image last i value ≡ []) (as_before : number_for p last i value ≡ number_of last i) where

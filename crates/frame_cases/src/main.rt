@@ -5,9 +5,10 @@
 mod answers;
 
 use answers::{Case, print_answers};
-use libc::STDIN_FILENO;
 use lines::{print, read_line, read_octets};
 use octets::{put_behind, two_at};
+use std::io;
+use std::io::Read;
 
 // A line is 22 octets in hexadecimal. The first seven: kind, 1 if secured and else 0, 1 if it is said to end in a check field and else 0,
 // length of the security header, octets of the mask that are used, length of the frame in two octets.
@@ -33,10 +34,10 @@ fn put_last(last: &[u8; 2], n: usize, whole: &mut [u8]) {
 
 // Whether there was a line. Its other octets are the first seven of the frame and its last two, whose others are 0, and six of mask. The
 // room is for the longest frame of the cases.
-fn run_line() -> bool {
+fn run_line(rt: &impl Print, input: &mut impl Read) -> io::Result<bool> {
     let mut line = [0u8; 45];
-    if read_line(STDIN_FILENO, &mut line) < 45 {
-        return false;
+    if read_line(input, &mut line)? < 45 {
+        return Ok(false);
     }
     let mut whole = [0u8; 4096];
     let mut last = [0u8; 2];
@@ -46,18 +47,18 @@ fn run_line() -> bool {
     read_octets(&line[32..44], &mut mask);
     let case = case_of(&line);
     put_last(&last, case.length, &mut whole);
-    print_answers(case, &mask, &mut whole);
-    print(b"\n");
-    true
+    print_answers(rt, case, &mask, &mut whole)?;
+    print(rt, b"\n")?;
+    Ok(true)
 }
 
 // A proved loop has to end, and nothing says that the input does: the bound is a number of lines that it does not have.
-fn main() {
-    let mut n: usize = 0;
-    while n < 65536 {
-        if !run_line() {
-            return;
+fn main(rt: HostRuntime) -> io::Result<()> {
+    let mut input = rt.reader();
+    for _ in 0..65536 {
+        if !run_line(&rt, &mut input)? {
+            break;
         }
-        n += 1;
     }
+    Ok(())
 }

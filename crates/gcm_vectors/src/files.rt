@@ -2,6 +2,9 @@
 use crate::refusals::is_refused;
 use gcm_entries::{is_entry, is_opened, is_sealed};
 use lines::read_line;
+use std::io::Read;
+use std::rt::Files;
+use std::{fs, io};
 use vector_lines::{Tally, is_empty};
 
 // What is tested of an entry: that it is sealed and opened as published, or that it is refused with one bit of a field changed.
@@ -37,28 +40,29 @@ fn tried(tally: Tally, trial: Trial, n: u64, line: &[u8]) -> Tally {
 }
 
 // A proved loop has to end, and nothing says that a file does: the bound is a number of lines that no file has.
-fn run_lines(fd: i32, trial: Trial) -> Tally {
+fn run_lines(file: &mut impl Read, trial: Trial) -> io::Result<Tally> {
     let mut tally = Tally::none();
     let mut n: u64 = 0;
     while n < u64::MAX {
         let mut line = [0u8; 640];
-        let count = read_line(fd, &mut line);
+        let count = read_line(file, &mut line)?;
         if count == 0 {
-            return tally;
+            return Ok(tally);
         }
         tally = tried(tally, trial, n, &line[..count]);
         n += 1;
     }
-    tally
+    Ok(tally)
 }
 
 // Runs a file, and writes how many entries it ran and how many differ.
-pub(crate) fn run(trial: Trial, path: &[u8], name: &[u8], what: &[u8]) {
-    let fd = os::open_read(path);
-    if fd < 0 {
-        os::fail(path);
-        return;
-    }
-    run_lines(fd, trial).print(name, what);
-    libc::close(fd);
+pub(crate) fn run(
+    rt: &(impl Files + Print),
+    trial: Trial,
+    path: &str,
+    name: &[u8],
+    what: &[u8],
+) -> io::Result<()> {
+    let mut file = fs::open(rt, path)?;
+    run_lines(&mut file, trial)?.print(rt, name, what)
 }

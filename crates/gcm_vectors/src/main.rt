@@ -6,30 +6,45 @@ mod refusals;
 
 use files::{Trial, run};
 use gcm_entries::{ADDITIONAL, CIPHERTEXT, TAG};
+use std::io;
+use std::rt::Files;
 
-fn refused(changed: usize, path: &[u8], name: &[u8], what: &[u8]) {
-    run(Trial::Refused(changed), path, name, what);
+fn refused(
+    rt: &(impl Files + Print),
+    changed: usize,
+    path: &str,
+    name: &[u8],
+    what: &[u8],
+) -> io::Result<()> {
+    run(rt, Trial::Refused(changed), path, name, what)
 }
 
-fn run_refusals(path: &[u8], name: &[u8]) {
-    refused(TAG, path, name, b"refusals of a changed tag");
-    refused(CIPHERTEXT, path, name, b"refusals of a changed ciphertext");
+fn run_refusals(rt: &(impl Files + Print), path: &str, name: &[u8]) -> io::Result<()> {
+    refused(rt, TAG, path, name, b"refusals of a changed tag")?;
     refused(
+        rt,
+        CIPHERTEXT,
+        path,
+        name,
+        b"refusals of a changed ciphertext",
+    )?;
+    refused(
+        rt,
         ADDITIONAL,
         path,
         name,
         b"refusals of changed additional data",
-    );
+    )
 }
 
 // A file, sealed, opened, and refused with a bit changed.
-fn run_file(path: &[u8], name: &[u8]) {
-    run(Trial::Sealed, path, name, b"seals");
-    run(Trial::Opened, path, name, b"openings");
-    run_refusals(path, name);
+fn run_file(rt: &(impl Files + Print), path: &str, name: &[u8]) -> io::Result<()> {
+    run(rt, Trial::Sealed, path, name, b"seals")?;
+    run(rt, Trial::Opened, path, name, b"openings")?;
+    run_refusals(rt, path, name)
 }
 
-fn main() {
-    run_file(b"GCM13to16.txt", b"GCM test cases 13 to 16");
-    run_file(b"gcmEncryptExtIV256.txt", b"gcmEncryptExtIV256");
+fn main(rt: HostRuntime) -> io::Result<()> {
+    run_file(&rt, "GCM13to16.txt", b"GCM test cases 13 to 16")?;
+    run_file(&rt, "gcmEncryptExtIV256.txt", b"gcmEncryptExtIV256")
 }

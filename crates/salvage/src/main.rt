@@ -2,21 +2,22 @@
 // standard error what became of its entries. Of a refused input there is no image, and the line that says so.
 #![tactic(auto)]
 
-use libc::{STDERR_FILENO, STDIN_FILENO, STDOUT_FILENO};
 use salvage_image::{LONGEST_SALVAGED, write_image};
 use salvage_lines::{LONGEST_LINES, write_lines};
+use std::io;
+use std::io::{Read, Write};
 use writing::text_in;
 
 // One octet more than an image can have: of a longer input that many are read, and they are refused, as no image is that long.
-const MOST_READ: usize = 1795;
+const MOST_READ: u64 = 1795;
 
-fn main() {
-    let mut damaged = [0u8; MOST_READ];
-    let count = io::read_full(STDIN_FILENO, &mut damaged);
+fn main(rt: HostRuntime) -> io::Result<()> {
+    let mut damaged = Vec::new(rt.alloc());
+    rt.reader().take(MOST_READ).read_to_end(&mut damaged)?;
     let mut image = [0u8; LONGEST_SALVAGED];
-    let salvaged = write_image(&damaged[..count], &mut image);
+    let salvaged = write_image(damaged.as_slice(), &mut image);
     let mut lines = [0u8; LONGEST_LINES];
-    let told = write_lines(&damaged[..count], &mut lines);
-    io::write_all(STDOUT_FILENO, text_in(salvaged, &image));
-    io::write_all(STDERR_FILENO, text_in(told, &lines));
+    let told = write_lines(damaged.as_slice(), &mut lines);
+    rt.write_all(text_in(salvaged, &image))?;
+    rt.stderr().write_all(text_in(told, &lines))
 }

@@ -3,56 +3,57 @@
 // hexadecimal. tools/salvage_cases.py makes the inputs and what is expected of them from the papers alone.
 #![tactic(auto)]
 
-use libc::STDIN_FILENO;
 use lines::{print, print_octets, read_line, read_octets};
 use octets::octet_at;
 use salvage_image::{LONGEST_SALVAGED, write_image};
 use salvage_lines::{LONGEST_LINES, write_lines};
+use std::io;
+use std::io::Read;
 use writing::text_in;
 
-fn print_lines(damaged: &[u8]) {
+fn print_lines(rt: &impl Print, damaged: &[u8]) -> io::Result<()> {
     let mut lines = [0u8; LONGEST_LINES];
     let told = write_lines(damaged, &mut lines);
-    print(text_in(told, &lines));
+    print(rt, text_in(told, &lines))
 }
 
-fn print_image(damaged: &[u8]) {
+fn print_image(rt: &impl Print, damaged: &[u8]) -> io::Result<()> {
     let mut image = [0u8; LONGEST_SALVAGED];
     let salvaged = write_image(damaged, &mut image);
-    print_octets(text_in(salvaged, &image));
-    print(b"\n");
+    print_octets(rt, text_in(salvaged, &image))?;
+    print(rt, b"\n")
 }
 
 // Room for the octets that 33 entries would have, one entry more than an image may have.
-fn salvage(line: &[u8]) {
+fn salvage(rt: &impl Print, line: &[u8]) -> io::Result<()> {
     let mut damaged = [0u8; 1850];
     let count = read_octets(line, &mut damaged);
-    print_lines(&damaged[..count]);
-    print_image(&damaged[..count]);
+    print_lines(rt, &damaged[..count])?;
+    print_image(rt, &damaged[..count])
 }
 
 // Whether there was a line.
-fn run_line() -> bool {
+fn run_line(rt: &impl Print, input: &mut impl Read) -> io::Result<bool> {
     let mut line = [0u8; 3701];
-    let count = read_line(STDIN_FILENO, &mut line);
+    let count = read_line(input, &mut line)?;
     if count == 0 {
-        return false;
+        return Ok(false);
     }
     if octet_at(&line[..count], 0) == b'#' {
-        print(&line[..count]);
+        print(rt, &line[..count])?;
     } else {
-        salvage(&line[..count]);
+        salvage(rt, &line[..count])?;
     }
-    true
+    Ok(true)
 }
 
 // A proved loop has to end, and nothing says that the input does: the bound is a number of lines that it does not have.
-fn main() {
-    let mut n: usize = 0;
-    while n < 65536 {
-        if !run_line() {
-            return;
+fn main(rt: HostRuntime) -> io::Result<()> {
+    let mut input = rt.reader();
+    for _ in 0..65536 {
+        if !run_line(&rt, &mut input)? {
+            break;
         }
-        n += 1;
     }
+    Ok(())
 }

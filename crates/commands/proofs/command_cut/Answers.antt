@@ -1,8 +1,9 @@
 -- `command_cut` is right because a command that is not addressed makes no store, and another is cut under its entry.
 -- Assumes nothing.
-use Prim.Native.Nat.{ℕ, ◌-◌, ◌≤◌}
+use Prim.Native.Nat.{◌-◌}
 use mathlib.Core.Path.{◌≡◌, ap, ◌∙◌, subst}
 use mathlib.Core.List.{List}
+use Prim.Native.Nat.{ℕ}
 use native.Mathlib.Omega.{arith}
 use lib.ListN.{length, take, drop, length-drop}
 use lib.Seq.{take_all}
@@ -16,42 +17,37 @@ use Rattle.commands.specs.Steps.{reply_under}
 use Rattle.commands.proofs.Addressing.{command-refused, command_under}
 use Rattle.commands.proofs.Cutting.{cut-refusal}
 use borrow.Author.Rules.{rules}
-use Rattle.commands.proofs.command_cut.Goals.{After-address_of-addressed, In-To-2, Start}
 use Rattle.commands.proofs.command_cut.Goals as goal
 
-abbrev start : tie.After-address-of → Start
-start c = c.before.before.before.before
-
-abbrev reply : tie.After-address-of → Reply
-reply c = let g = (start c).args in command_reply g.image.now g.numbers.last g.desk g.command.now g.room
-
-abbrev told : tie.After-address-of → Address → Type 0
-told c a = let g = (start c).args in Addressed a g.image.now g.numbers.last g.desk g.command.now
-
-long : (c : In-To-2) → front_length ≤ length (start (c AT After-address_of-addressed)).args.command.now
-long c = (subst (told (c AT After-address_of-addressed)) c.in-To.is c.address_of-addressed.ensures).long
+abbrev Told : List ℕ → List ℕ → ℕ → List ℕ → Address → Type 0
+Told image last desk command a = Addressed a image last desk command
 
 pub slice_bounds-cut_under-count : goal.slice_bounds-cut_under-count
-slice_bounds-cut_under-count c = let l = long (goal.at.slice_bounds-cut_under-count c).In-To-2 in search rules
+slice_bounds-cut_under-count c = let g = c.args in
+    let l = (subst (Told g.image.now g.numbers.last g.desk g.command.now) c.in-To.is c.address_of-addressed.ensures).long in
+    search rules
 
 pub slice_bounds-cut_under-start : goal.slice_bounds-cut_under-start
-slice_bounds-cut_under-start c = let l = long (goal.at.slice_bounds-cut_under-start c).In-To-2 in search rules
+slice_bounds-cut_under-start c = let g = c.args in
+    let l = (subst (Told g.image.now g.numbers.last g.desk g.command.now) c.in-To.is c.address_of-addressed.ensures).long in
+    search rules
 
 pub returns-in-Refused : goal.returns-in-Refused
-returns-in-Refused c = let g = (start (goal.at.returns-in-Refused c).After-address_of-addressed).args in
-    cut-refusal (reply (goal.at.returns-in-Refused c).After-address_of-addressed) g.image.now g.stores _
-    (command-refused g.image.now g.numbers.last g.desk g.command.now g.room _
-    (subst (told (goal.at.returns-in-Refused c).After-address_of-addressed) c.in-Refused.is c.address_of-addressed.ensures))
+returns-in-Refused c = let g = c.args in
+    let refused = subst (Told g.image.now g.numbers.last g.desk g.command.now) c.in-Refused.is c.address_of-addressed.ensures in
+    let made = cut-refusal (command_reply g.image.now g.numbers.last g.desk g.command.now g.room) g.image.now g.stores _
+    (command-refused g.image.now g.numbers.last g.desk g.command.now g.room _ refused) in
+    record { value = made.0; image_after = made.1 }
 
 pub returns-in-To : goal.returns-in-To
-returns-in-To c = let g = (start (goal.at.returns-in-To c).After-address_of-addressed).args in
+returns-in-To c = let g = c.args in
     let p = c.in-To.procedure in
     let e = c.in-To.entry in
     let value : take (length g.command.now - front_length) (drop front_length g.command.now) ≡ drop front_length g.command.now =
     take_all (length g.command.now - front_length) (drop front_length g.command.now) (simp length-drop (omega arith)) in
     let whole = ap (λ (v : List ℕ). reply_under p g.image.now g.numbers.last e v g.room) value
     ∙ command_under g.image.now g.numbers.last g.desk g.command.now g.room p e
-    (subst (told (goal.at.returns-in-To c).After-address_of-addressed) c.in-To.is c.address_of-addressed.ensures) in record {
+    (subst (Told g.image.now g.numbers.last g.desk g.command.now) c.in-To.is c.address_of-addressed.ensures) in record {
       value = c.cut_under.ensures.value ∙ ap (λ (q : Reply). length (take g.stores (made_by q))) whole;
       image_after = c.cut_under.ensures.image_after ∙ ap (λ (q : Reply). cut q g.image.now g.stores) whole;
     }

@@ -5,7 +5,7 @@ use mathlib.Core.Bool.{true, false, not}
 use mathlib.Core.List.{List}
 use Prim.Native.Nat.{ℕ}
 use native.Mathlib.Omega.{arith}
-use borrow.Author.Tests.{lt-ltb, le-ltb, not-false}
+use borrow.Author.Tests.{lt-ltb, le-ltb}
 use lib.Dec.{ltb}
 use lib.ListN.{length, drop}
 use Rattle.bodies.specs.Body.{state_of}
@@ -27,21 +27,21 @@ module _ (p : Procedure) (image : List ℕ) (e last : ℕ) (value : List ℕ) (r
 
   -- ---- 15, 16, 17 and 18
 
-  module _ (asked : not (p.asks (state_of body)) ≡ false) where
+  module _ (asked : p.asks (state_of body) ≡ true) where
     past-15 : first tests ≡ first (drop 1 tests)
-    past-15 = passes 15 _ _ asked
+    past-15 = passes 15 _ _ (ap not asked)
 
-    module _ (allowed : not (p.allows (version_of image) body last value) ≡ false) where
+    module _ (allowed : p.allows (version_of image) body last value ≡ true) where
       past-16 : first tests ≡ first (drop 2 tests)
-      past-16 = past-15 ∙ passes 16 _ _ allowed
+      past-16 = past-15 ∙ passes 16 _ _ (ap not allowed)
 
-      module _ (known : not (p.knows image e value) ≡ false) where
+      module _ (known : p.knows image e value ≡ true) where
         past-17 : first tests ≡ first (drop 3 tests)
-        past-17 = past-16 ∙ passes 17 _ _ known
+        past-17 = past-16 ∙ passes 17 _ _ (ap not known)
 
-        module _ (ready : not (p.ready image e value) ≡ false) where
+        module _ (ready : p.ready image e value ≡ true) where
           past-18 : first tests ≡ first (drop 4 tests)
-          past-18 = past-17 ∙ passes 18 _ _ ready
+          past-18 = past-17 ∙ passes 18 _ _ (ap not ready)
 
           -- ---- 6
 
@@ -52,34 +52,34 @@ pub returns-then-not-asks : goal.returns-then-not-asks
 returns-then-not-asks c = let g = c.args in
     let p = procedure_is g.procedure in
     let asked : p.asks (state_of (body_of g.image.now g.entry)) ≡ c.asks.result = sym (c.asks.ensures ∙ ap p.asks c.state_at.ensures) in
-    refuses answer.WrongState _ 15 refl (omega arith) (applies 15 _ _ (ap not asked ∙ c.if-not-asks.true))
+    refuses answer.WrongState _ 15 refl (omega arith) (applies 15 _ _ (ap not (asked ∙ c.if-not-asks.true)))
 
 pub returns-then-not-allowed : goal.returns-then-not-allowed
 returns-then-not-allowed c = let g = c.args in
     let p = procedure_is g.procedure in
     let asked : p.asks (state_of (body_of g.image.now g.entry)) ≡ c.asks.result = sym (c.asks.ensures ∙ ap p.asks c.state_at.ensures) in
     refuses answer.BadValue _ 16 refl (omega arith)
-    (past-15 p g.image.now g.entry g.last g.value.now g.room (ap not asked ∙ c.if-not-asks.false)
-    ∙ applies 16 _ _ (ap not (sym c.allowed.ensures) ∙ c.if-not-allowed.true))
+    (past-15 p g.image.now g.entry g.last g.value.now g.room (asked ∙ c.if-not-asks.false)
+    ∙ applies 16 _ _ (ap not (sym c.allowed.ensures ∙ c.if-not-allowed.true)))
 
 pub returns-then-not-key_known : goal.returns-then-not-key_known
 returns-then-not-key_known c = let g = c.args in
     let p = procedure_is g.procedure in
     let asked : p.asks (state_of (body_of g.image.now g.entry)) ≡ c.asks.result = sym (c.asks.ensures ∙ ap p.asks c.state_at.ensures) in
     refuses answer.UnknownKey _ 17 refl (omega arith)
-    (past-16 p g.image.now g.entry g.last g.value.now g.room (ap not asked ∙ c.if-not-asks.false)
-    (ap not (sym c.allowed.ensures) ∙ c.if-not-allowed.false)
-    ∙ applies 17 _ _ (ap not (sym c.key_known.ensures) ∙ c.if-not-key_known.true))
+    (past-16 p g.image.now g.entry g.last g.value.now g.room (asked ∙ c.if-not-asks.false)
+    (sym c.allowed.ensures ∙ c.if-not-allowed.false)
+    ∙ applies 17 _ _ (ap not (sym c.key_known.ensures ∙ c.if-not-key_known.true)))
 
 pub returns-then-not-key_ready : goal.returns-then-not-key_ready
 returns-then-not-key_ready c = let g = c.args in
     let p = procedure_is g.procedure in
     let asked : p.asks (state_of (body_of g.image.now g.entry)) ≡ c.asks.result = sym (c.asks.ensures ∙ ap p.asks c.state_at.ensures) in
     refuses answer.WrongKeyState _ 18 refl (omega arith)
-    (past-17 p g.image.now g.entry g.last g.value.now g.room (ap not asked ∙ c.if-not-asks.false)
-    (ap not (sym c.allowed.ensures) ∙ c.if-not-allowed.false)
-    (ap not (sym c.key_known.ensures) ∙ c.if-not-key_known.false)
-    ∙ applies 18 _ _ (ap not (sym c.key_ready.ensures) ∙ c.if-not-key_ready.true))
+    (past-17 p g.image.now g.entry g.last g.value.now g.room (asked ∙ c.if-not-asks.false)
+    (sym c.allowed.ensures ∙ c.if-not-allowed.false)
+    (sym c.key_known.ensures ∙ c.if-not-key_known.false)
+    ∙ applies 18 _ _ (ap not (sym c.key_ready.ensures ∙ c.if-not-key_ready.true)))
 
 pub returns-then-room-size : goal.returns-then-room-size
 returns-then-room-size c = let g = c.args in
@@ -87,10 +87,10 @@ returns-then-room-size c = let g = c.args in
     let asked : p.asks (state_of (body_of g.image.now g.entry)) ≡ c.asks.result = sym (c.asks.ensures ∙ ap p.asks c.state_at.ensures) in
     let sized : c.reply_size-size.result ≡ length (p.reply g.image.now g.entry g.last g.value.now) = c.reply_size-size.ensures g.entry g.last in
     refuses answer.NoRoom _ 6 refl (omega arith)
-    (past-18 p g.image.now g.entry g.last g.value.now g.room (ap not asked ∙ c.if-not-asks.false)
-    (ap not (sym c.allowed.ensures) ∙ c.if-not-allowed.false)
-    (ap not (sym c.key_known.ensures) ∙ c.if-not-key_known.false)
-    (ap not (sym c.key_ready.ensures) ∙ c.if-not-key_ready.false)
+    (past-18 p g.image.now g.entry g.last g.value.now g.room (asked ∙ c.if-not-asks.false)
+    (sym c.allowed.ensures ∙ c.if-not-allowed.false)
+    (sym c.key_known.ensures ∙ c.if-not-key_known.false)
+    (sym c.key_ready.ensures ∙ c.if-not-key_ready.false)
     ∙ applies 6 _ _ (lt-ltb g.room _ (omega arith)))
 
 pub returns : goal.returns
@@ -98,12 +98,12 @@ returns c = let g = c.args in
     let p = procedure_is g.procedure in
     let asked : p.asks (state_of (body_of g.image.now g.entry)) ≡ c.asks.result = sym (c.asks.ensures ∙ ap p.asks c.state_at.ensures) in
     let sized : c.reply_size-size.result ≡ length (p.reply g.image.now g.entry g.last g.value.now) = c.reply_size-size.ensures g.entry g.last in
-    let number = c.new_number-number.ensures (version_of g.image.now) (body_of g.image.now g.entry) (sym c.allowed.ensures ∙ not-false _ c.if-not-allowed.false) in
+    let number = c.new_number-number.ensures (version_of g.image.now) (body_of g.image.now g.entry) (sym c.allowed.ensures ∙ c.if-not-allowed.false) in
     record {
-      answer = past-6 p g.image.now g.entry g.last g.value.now g.room (ap not asked ∙ c.if-not-asks.false)
-        (ap not (sym c.allowed.ensures) ∙ c.if-not-allowed.false)
-        (ap not (sym c.key_known.ensures) ∙ c.if-not-key_known.false)
-        (ap not (sym c.key_ready.ensures) ∙ c.if-not-key_ready.false)
+      answer = past-6 p g.image.now g.entry g.last g.value.now g.room (asked ∙ c.if-not-asks.false)
+        (sym c.allowed.ensures ∙ c.if-not-allowed.false)
+        (sym c.key_known.ensures ∙ c.if-not-key_known.false)
+        (sym c.key_ready.ensures ∙ c.if-not-key_ready.false)
         (le-ltb g.room _ (omega arith));
       entry = refl;
       number = number;

@@ -21,7 +21,7 @@ unfolding load_call
 returns c = let g = c.args in
     returned (loaded g.image.now) g.image.now g.numbers.now []
     c.load.result
-    at-else.if1.false
+    c.if-numbers-ne32.false
     c.numbers_in.ensures
     c.load.ensures
     c.returned.ensures

@@ -15,7 +15,7 @@ unfolding secure_call
 returns-then-numbers-ne32 c = let g = c.args in
     miscounted (λ (n : List ℕ). secured g.image.now n (told g.desk g.kind g.field) g.spi g.frame.now g.output.now)
     g.image.now g.numbers.now g.output.now
-    at-then.if1.true
+    c.if-numbers-ne32.true
     (c.word.ensures ∙ ap (λ (a : ℕ). word a 0 0) c.count_answer.ensures)
 
 pub returns : goal.returns
@@ -24,7 +24,7 @@ returns c = let g = c.args in
     returned (λ (n : List ℕ). secured g.image.now n (told g.desk g.kind g.field) g.spi g.frame.now g.output.now)
     g.image.now g.numbers.now g.output.now
     c.secure_by.result
-    at-else.if1.false
+    c.if-numbers-ne32.false
     c.numbers_in-given.ensures
     c.secure_by.ensures
     c.returned.ensures

@@ -22,7 +22,7 @@ returns-then-numbers-ne32 c = let g = c.args in
     (λ (n : List ℕ) (x : Left). (check_left notes g.image.now n said g.frame.now x).notes)
     (λ (n : List ℕ). checked g.image.now n said g.frame.now g.output.now)
     g.image.now g.numbers.now g.output.now
-    at-then.if1.true
+    c.if-numbers-ne32.true
     c.refuse_check.ensures.0
     (c.refuse_check.ensures.1 ∙ unread-told notes g.desk (valid_image g.image.now) _ _)
 
@@ -35,7 +35,7 @@ returns c = let g = c.args in
     (λ (n : List ℕ). checked g.image.now n said g.frame.now g.output.now)
     g.image.now g.numbers.now g.output.now
     c.check_noted-noted.result
-    at-else.if1.false
+    c.if-numbers-ne32.false
     c.numbers_in-given.ensures
     c.check_noted-noted.ensures
     c.returned.ensures

@@ -20,7 +20,7 @@ returns-then-numbers-ne32 c = let g = c.args in
     (λ (n : List ℕ) (x : Left). (command_left notes g.desk g.command.now x).notes)
     (λ (n : List ℕ). commanded_with (log_in notes) g.image.now n g.desk g.command.now g.output.now)
     g.image.now g.numbers.now g.output.now
-    at-then.if1.true
+    c.if-numbers-ne32.true
     c.refuse_command.ensures.0
     (c.refuse_command.ensures.1
     ∙ ap (λ (t : ℕ). noted_command notes g.desk t (cond (valid_image g.image.now) 2 1)) c.octet_at.ensures)
@@ -34,7 +34,7 @@ returns c = let g = c.args in
     (λ (n : List ℕ). commanded_with (log_in notes) g.image.now n g.desk g.command.now g.output.now)
     g.image.now g.numbers.now g.output.now
     c.command_noted-noted.result
-    at-else.if1.false
+    c.if-numbers-ne32.false
     c.numbers_in-given.ensures
     c.command_noted-noted.ensures
     c.returned.ensures

@@ -12,4 +12,4 @@ returns c = let g = c.args in
     command-told before c.note_command.result c.command_with-outcome.result _ _ _
     (commanded_with (log_in before) g.image.now g.numbers.last g.desk g.command.now g.output.now)
     c.note_command.ensures.0 c.command_with-outcome.ensures
-    g.desk g.command.now read.octet-at.result c.note_command.ensures.1 read.octet-at.ensures
+    g.desk g.command.now c.octet_at-tag.result c.note_command.ensures.1 c.octet_at-tag.ensures

@@ -13,4 +13,4 @@ returns c = let g = c.args in
     c.put.ensures
     ∙ ap (λ (t : List ℕ). fronted t g.output.now)
     (c.status_reply.ensures
-    ∙ ap₂ (λ (spi (goal.at.returns c).After-state_at : ℕ). reply_to 0x1F (bytes spi_length spi ++ ((goal.at.returns c).After-state_at ∷ []))) c.spi_named.ensures c.state_at.ensures)
+    ∙ ap₂ (λ (spi state : ℕ). reply_to 0x1F (bytes spi_length spi ++ (state ∷ []))) c.spi_named.ensures c.state_at.ensures)

@@ -6,10 +6,11 @@ use native.Mathlib.Omega.{arith}
 use lib.ListN.{length}
 use lib.Seq.{length-take-le}
 use Rattle.salvage_image.proofs.Sizes.{longest-image}
+use Rattle.salvage_image.proofs.write_image.Goals.{After-put_image-count}
 use Rattle.salvage_image.proofs.write_image.Goals as goal
 
-within : (c : tie.After-put-image) → c.put-image.result ≤ length c.put-image.new.1.0
-within c = omega (arith, longest-image c.before.before.before.before.args.x.now)
+within : (c : After-put_image-count) → c.put_image-count.result ≤ length c.put_image-count.new.out
+within c = omega (arith, longest-image c.args.x.now)
 
 pub slice_bounds-copy_front-end : goal.slice_bounds-copy_front-end
 slice_bounds-copy_front-end c = sym (length-take-le _ _ (within (goal.at.slice_bounds-copy_front-end c).After-put_image-count))

@@ -6,10 +6,11 @@ use native.Mathlib.Omega.{arith}
 use lib.ListN.{length}
 use lib.Seq.{length-take-le}
 use Rattle.salvage_lines.proofs.LineParts.{longest-lines}
+use Rattle.salvage_lines.proofs.write_lines.Goals.{After-put_lines-count}
 use Rattle.salvage_lines.proofs.write_lines.Goals as goal
 
-within : (c : tie.After-put-lines) → c.put-lines.result ≤ length c.put-lines.new.1.0
-within c = omega (arith, longest-lines c.before.before.before.before.args.x.now)
+within : (c : After-put_lines-count) → c.put_lines-count.result ≤ length c.put_lines-count.new.out
+within c = omega (arith, longest-lines c.args.x.now)
 
 pub slice_bounds-copy_front-end : goal.slice_bounds-copy_front-end
 slice_bounds-copy_front-end c = sym (length-take-le _ _ (within (goal.at.slice_bounds-copy_front-end c).After-put_lines-count))

@@ -1,7 +1,7 @@
 -- `address_within` is right because a command from a wrong desk is answered by 19, one that calls no procedure by 13, and one whose entry the
 -- table has not for that desk by 14.
 -- Assumes nothing.
-use mathlib.Core.Path.{◌≡◌, refl, sym, ◌∙◌}
+use mathlib.Core.Path.{refl, sym, ◌∙◌}
 use native.Mathlib.Omega.{arith}
 use Rattle.judging.specs.declared.answers.Answer.TheVariants as answer
 use Rattle.judging.proofs.Admitting.{refuses}

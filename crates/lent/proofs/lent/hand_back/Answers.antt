@@ -3,7 +3,6 @@
 -- an element that is right already
 use mathlib.Core.Path.{◌≡◌, ◌∙◌, refl, subst}
 use mathlib.Core.List.{List}
-use mathlib.Core.Logic.{⊎_elim}
 use Prim.Native.Nat.{ℕ, ◌+◌, ◌-◌, ◌<◌}
 use native.Mathlib.Omega.{arith}
 use lib.ListN.{length}
@@ -12,6 +11,7 @@ use Rattle.octets.specs.Lists.{octet}
 use Rattle.octets.proofs.Parts.{tab_self}
 use Rattle.octets.proofs.Rules.{Filled, filled_none, filled_more, filled_all}
 use borrow.Author.Rules.{rules}
+use Rattle.lent.proofs.lent.hand_back.Goals.{then-lent-i, else-lent-i}
 use Rattle.lent.proofs.lent.hand_back.Goals as goal
 
 filled-kept : {n i : ℕ} {f : ℕ → ℕ} {out : List ℕ} → i < n → octet out i ≡ f i → Filled n f out i → Filled n f out (i + 1)
@@ -23,10 +23,10 @@ loop-i-init c = filled_none (search rules)
 pub loop-i-preserved : goal.loop-i-preserved
 loop-i-preserved c = let at-loop = c.loop-i in
     let test : at-loop.i < 32 = omega arith in
-    ⊎_elim
-    (λ w. rw w.1 (filled_more test refl at-loop.invariant))
-    (λ w. rw w.1 (filled-kept test w.0.left at-loop.invariant))
-    c.if-lent-i.branch
+    elim c.if-lent-i.branch [
+      then-lent-i w ↦ rw w.lent-is (filled_more test refl at-loop.invariant)
+      | else-lent-i w ↦ rw w.lent-is (filled-kept test w.if-lent-i.false at-loop.invariant)
+    ]
 
 pub returns : goal.returns
 returns c = let last = c.args.numbers.last in

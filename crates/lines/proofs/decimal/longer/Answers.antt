@@ -16,12 +16,14 @@ returns-then-c-gt57 c = simp (le-ltb _ _ c.if-c-lt48.false, lt-ltb _ _ c.if-c-gt
 
 pub returns-then-digit-n : goal.returns-then-digit-n
 unfolding longer_by
-returns-then-digit-n c = let g = c.args in
+returns-then-digit-n c =
+    let g = c.args in
     let h : 18446744073709551615 < 10 * g.n + (g.c - 48) = omega arith in
     simp (le-ltb _ _ c.if-c-lt48.false, le-ltb _ _ c.if-c-gt57.false, lt-leb _ _ h)
 
 pub returns : goal.returns
 unfolding longer_by
-returns c = let g = c.args in
+returns c =
+    let g = c.args in
     let h : 10 * g.n + (g.c - 48) ≤ 18446744073709551615 = omega arith in
     simp (le-ltb _ _ c.if-c-lt48.false, le-ltb _ _ c.if-c-gt57.false, le-leb _ _ h)

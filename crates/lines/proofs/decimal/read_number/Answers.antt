@@ -16,9 +16,11 @@ returns-in_default c = digit_refused c.args.text.now c.loop-i.n c.loop-i.i (sear
     ∙ sym c.loop-i.invariant.1
 
 pub loop-i-preserved : goal.loop-i-preserved
-loop-i-preserved c = let text = c.args.text.now in
+loop-i-preserved c =
+    let text = c.args.text.now in
     (search rules, c.loop-i.invariant.1 ∙ next_digit text c.loop-i.n c.loop-i.i _ (search rules) (cc))
 
 pub returns : goal.returns
-returns c = let at-loop = c.loop-i in
+returns c =
+    let at-loop = c.loop-i in
     ended c.args.text.now at-loop.n at-loop.i (search rules) ∙ sym at-loop.invariant.1

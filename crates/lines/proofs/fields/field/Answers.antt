@@ -10,10 +10,12 @@ pub loop-left-init : goal.loop-left-init
 loop-left-init c = (search rules, refl)
 
 pub loop-left-preserved : goal.loop-left-preserved
-loop-left-preserved c = let at-loop = c.loop-left in
+loop-left-preserved c =
+    let at-loop = c.loop-left in
     (search rules, at-loop.invariant.1 ∙ is-next _ _ at-loop.left (search rules) c.behind_field-from.ensures.line_value)
 
 pub returns : goal.returns
-returns c = let at-loop = c.loop-left in
+returns c =
+    let at-loop = c.loop-left in
     let last : at-loop.left ≡ 0 = omega arith in
     is-first _ _ _ c.field_end-end.ensures.value ∙ sym (rw last at at-loop.invariant.1)

@@ -14,24 +14,20 @@ use Rattle.judging.proofs.Standings.{broken, disagreeing, standing_well}
 use Rattle.event_log.specs.Held.{lent_log}
 use Rattle.note_commands.specs.NoteCommands.{note_reply, desk_tests, note_tests}
 use Rattle.note_commands.specs.Steps.{Ruled}
-use Rattle.note_commands.proofs.judged.judge.Goals.{Start}
 use Rattle.note_commands.proofs.judged.judge.Goals as goal
 
-abbrev start : tie.After-test-standing → Start
-start c = c.before.before.before.before
-
 pub returns-in-BadImage : goal.returns-in-BadImage
-returns-in-BadImage c = let g = (start (goal.at.returns-in-BadImage c).After-test_standing-standing).args in
+returns-in-BadImage c = let g = c.args in
     refuses answer.BadImage _ 1 refl (omega arith)
     (applies 1 _ _ (ap not (broken g.image.now g.numbers.last (sym c.test_standing-standing.ensures ∙ c.in-BadImage.is))))
 
 pub returns-in-BadMarks : goal.returns-in-BadMarks
-returns-in-BadMarks c = let g = (start (goal.at.returns-in-BadMarks c).After-test_standing-standing).args in
+returns-in-BadMarks c = let g = c.args in
     let w = disagreeing g.image.now g.numbers.last (sym c.test_standing-standing.ensures ∙ c.in-BadMarks.is) in
     refuses answer.BadMarks _ 2 refl (omega arith) (passes 1 _ _ (ap not w.0) ∙ applies 2 _ _ (ap not w.1))
 
 pub returns-in-Good : goal.returns-in-Good
-returns-in-Good c = let g = (start (goal.at.returns-in-Good c).After-test_standing-standing).args in
+returns-in-Good c = let g = c.args in
     let lent = lent_log g.log g.events.now in
     let w = standing_well g.image.now g.numbers.last (sym c.test_standing-standing.ensures ∙ c.in-Good.is) in
     let past : first (note_tests lent g.image.now g.numbers.last g.desk g.command.now g.room)

@@ -1,7 +1,7 @@
 -- `judge_within` is right because it asks the definition's tests in their order, and each way out is the first that applies.
 -- Assumes nothing.
 use mathlib.Core.Path.{◌≡◌, refl, sym, ap, ◌∙◌}
-use mathlib.Core.Bool.{not}
+use mathlib.Core.Bool.{Bool, true, false, not}
 use mathlib.Core.List.{List}
 use Prim.Native.Nat.{ℕ}
 use native.Mathlib.Omega.{arith}
@@ -13,53 +13,64 @@ use Rattle.judging.specs.declared.answers.Answer.TheVariants as answer
 use Rattle.judging.proofs.Admitting.{refuses}
 use Rattle.judging.proofs.First.{none_left, applies, passes}
 use Rattle.event_log.specs.Held.{LentLog, lent_log}
-use Rattle.note_commands.specs.NoteCommands.{wrong_desk, note_reply, desk_tests}
-use Rattle.note_commands.proofs.judged.judge_within.Goals.{After-wrong_desk, Else-not-bare, Else-wrong_desk, Start}
+use Rattle.note_commands.specs.NoteCommands.{wrong_desk, bare, note_reply, desk_tests}
 use Rattle.note_commands.proofs.judged.judge_within.Goals as goal
 
-abbrev start : tie.After-wrong-desk → Start
-start c = c.before.before.before.before
+module _ (log : LentLog) (desk : ℕ) (command : List ℕ) (room : ℕ) where
+  abbrev tests : List Test
+  tests = desk_tests log desk command room
 
-abbrev lent : tie.After-wrong-desk → LentLog
-lent c = lent_log (start c).args.log (start c).args.events.now
+  -- ---- 19
 
-abbrev tests : tie.After-wrong-desk → List Test
-tests c = let g = (start c).args in desk_tests (lent c) g.desk g.command.now g.room
+  wrong : {t : ℕ} {r : Bool} → t ≡ tag_of command → r ≡ wrong_desk desk t → r ≡ wrong_desk desk (tag_of command)
+  wrong e w = w ∙ ap (wrong_desk desk) e
 
--- ---- 19
+  past-19 : {t : ℕ} {r : Bool} → t ≡ tag_of command → r ≡ wrong_desk desk t → r ≡ false → first tests ≡ first (drop 1 tests)
+  past-19 e w f = passes 19 _ _ (sym (wrong e w) ∙ f)
 
-wrong : (c : tie.After-wrong-desk) → let g = (start c).args in c.wrong-desk.result ≡ wrong_desk g.desk (tag_of g.command.now)
-wrong c = c.wrong-desk.ensures ∙ ap (wrong_desk (start c).args.desk) c.before.octet-at.ensures
+  -- ---- 13
 
-past-19 : (c : Else-wrong_desk) → first (tests (c AT After-wrong_desk)) ≡ first (drop 1 (tests (c AT After-wrong_desk)))
-past-19 c = passes 19 _ _ (sym (wrong (c AT After-wrong_desk)) ∙ c.if-wrong_desk.false)
+  past-13 : {t : ℕ} {r b : Bool} → t ≡ tag_of command → r ≡ wrong_desk desk t → r ≡ false → b ≡ bare command → b ≡ true
+      → first tests ≡ first (drop 2 tests)
+  past-13 e w f n h = past-19 e w f ∙ passes 13 _ _ (ap not (sym n ∙ h))
 
--- ---- 13
+  -- ---- 6
 
-past-13 : (c : Else-not-bare) → first (tests (c AT After-wrong_desk)) ≡ first (drop 2 (tests (c AT After-wrong_desk)))
-past-13 c = past-19 (c AT Else-wrong_desk) ∙ passes 13 _ _ (ap not (sym c.bare.ensures) ∙ c.if-not-bare.false)
-
--- ---- 6
-
-sized : (c : tie.After-reply-size) → let d = c.before.before.before.before in
-    c.reply-size.result ≡ length (note_reply (lent d) (tag_of (start d).args.command.now))
-sized c =
-    let d = c.before.before.before.before in
-    c.reply-size.ensures ∙ ap (λ (t : ℕ). length (note_reply (lent d) t)) d.before.octet-at.ensures
+  sized : {t size : ℕ} → t ≡ tag_of command → size ≡ length (note_reply log t) → size ≡ length (note_reply log (tag_of command))
+  sized e s = s ∙ ap (λ (u : ℕ). length (note_reply log u)) e
 
 pub returns-then-wrong_desk : goal.returns-then-wrong_desk
-returns-then-wrong_desk c = refuses answer.WrongDesk _ 19 refl (omega arith) (applies 19 _ _ (sym (wrong (goal.at.returns-then-wrong_desk c).After-wrong_desk) ∙ c.if-wrong_desk.true))
+returns-then-wrong_desk c =
+    let g = c.args in
+    refuses answer.WrongDesk _ 19 refl (omega arith)
+    (applies 19 _ _
+    (sym (wrong (lent_log g.log g.events.now) g.desk g.command.now g.room c.octet_at-tag.ensures c.wrong_desk.ensures)
+    ∙ c.if-wrong_desk.true))
 
 pub returns-then-not-bare : goal.returns-then-not-bare
-returns-then-not-bare c = refuses answer.BadCommand _ 13 refl (omega arith)
-    (past-19 (goal.at.returns-then-not-bare c).Else-wrong_desk ∙ applies 13 _ _ (ap not (sym c.bare.ensures) ∙ c.if-not-bare.true))
+returns-then-not-bare c =
+    let g = c.args in
+    refuses answer.BadCommand _ 13 refl (omega arith)
+    (past-19 (lent_log g.log g.events.now) g.desk g.command.now g.room c.octet_at-tag.ensures c.wrong_desk.ensures c.if-wrong_desk.false
+    ∙ applies 13 _ _ (ap not (sym c.bare.ensures ∙ c.if-not-bare.true)))
 
 pub returns-then-room-size : goal.returns-then-room-size
-returns-then-room-size c = refuses answer.NoRoom _ 6 refl (omega arith)
-    (past-13 (goal.at.returns-then-room-size c).Else-not-bare ∙ applies 6 _ _ (lt-ltb (start (goal.at.returns-then-room-size c).After-wrong_desk).args.room _ (omega (arith, sized (goal.at.returns-then-room-size c).After-reply_size-size))))
+returns-then-room-size c =
+    let g = c.args in
+    let log = lent_log g.log g.events.now in
+    refuses answer.NoRoom _ 6 refl (omega arith)
+    (past-13 log g.desk g.command.now g.room c.octet_at-tag.ensures c.wrong_desk.ensures c.if-wrong_desk.false c.bare.ensures c.if-not-bare.false
+    ∙ applies 6 _ _
+    (lt-ltb g.room _ (omega (arith, sized log g.desk g.command.now g.room c.octet_at-tag.ensures c.reply_size-size.ensures))))
 
 pub returns : goal.returns
-returns c = (
-  past-13 (goal.at.returns c).Else-not-bare ∙ passes 6 _ _ (le-ltb (start (goal.at.returns c).After-wrong_desk).args.room _ (omega (arith, sized (goal.at.returns c).After-reply_size-size))) ∙ none_left,
-  sized (goal.at.returns c).After-reply_size-size,
-)
+returns c =
+    let g = c.args in
+    let log = lent_log g.log g.events.now in
+    let size = sized log g.desk g.command.now g.room c.octet_at-tag.ensures c.reply_size-size.ensures in (
+      past-13 log g.desk g.command.now g.room c.octet_at-tag.ensures c.wrong_desk.ensures c.if-wrong_desk.false c.bare.ensures
+          c.if-not-bare.false
+          ∙ passes 6 _ _ (le-ltb g.room _ (omega (arith, size)))
+          ∙ none_left,
+      size,
+    )

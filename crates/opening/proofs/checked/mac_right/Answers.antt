@@ -17,13 +17,14 @@ use Rattle.opening.proofs.Reading.{placed, key_expanded, security_lent, text_len
 use Rattle.opening.proofs.checked.mac_right.Goals.{After-cover-covered}
 use Rattle.opening.proofs.checked.mac_right.Goals as goal
 
-abbrev before : After-cover-covered → List ℕ
-before c = c.cover-covered.new.out
+pub overflow_sub-security : goal.overflow_sub-security
+overflow_sub-security c = omega (arith, placed c.args.opening c.args.frame.now c.requires.opens)
 
 pub cover-covered-requires : goal.cover-covered-requires
-cover-covered-requires c = let g = c.args in
+cover-covered-requires c =
+    let g = c.args in
     let t = covered_most g.opening.held g.opening.framing g.frame.now in
-    let p = placed c.args.opening c.args.frame.now c.requires.opens in
+    let p = placed g.opening g.frame.now c.requires.opens in
     (omega arith, omega arith)
 
 long : (c : After-cover-covered) → let o = c.args.opening in o.parts.security - o.parts.header ≡ security_length o.held
@@ -33,36 +34,44 @@ counted : (c : After-cover-covered) → let g = c.args in
     c.cover-covered.result ≡ (framed g.opening.framing).header g.frame.now + security_length g.opening.held
 counted c = omega (arith, c.cover-covered.ensures.value, long c)
 
-filled : (c : After-cover-covered) → length (before c) ≡ most_before
-filled c = let g = c.args in
+filled : (c : After-cover-covered) → length c.cover-covered.new.out ≡ most_before
+filled c =
+    let g = c.args in
     let o = g.opening in
-    let p = placed c.args.opening c.args.frame.now c.requires.opens in
-    long-before o.held o.framing g.frame.now (o.parts.security - o.parts.header) (long c) (omega arith) (before c) c.cover-covered.ensures.out_after
+    let p = placed g.opening g.frame.now c.requires.opens in
+    long-before o.held o.framing g.frame.now (o.parts.security - o.parts.header) (long c) (omega arith) c.cover-covered.new.out
+    c.cover-covered.ensures.out_after
 
 covered : (c : After-cover-covered) → let g = c.args in
-    take c.cover-covered.result (before c) ≡ covered_in g.opening.held (framed g.opening.framing) g.frame.now
-covered c = let g = c.args in
+    take c.cover-covered.result c.cover-covered.new.out ≡ covered_in g.opening.held (framed g.opening.framing) g.frame.now
+covered c =
+    let g = c.args in
     let o = g.opening in
-    let p = placed c.args.opening c.args.frame.now c.requires.opens in
-    ap (λ (x : ℕ). take x (before c)) c.cover-covered.ensures.value
-    ∙ front o.held o.framing g.frame.now (o.parts.security - o.parts.header) (long c) (omega arith) (before c)
+    let p = placed g.opening g.frame.now c.requires.opens in
+    ap (λ (x : ℕ). take x c.cover-covered.new.out) c.cover-covered.ensures.value
+    ∙ front o.held o.framing g.frame.now (o.parts.security - o.parts.header) (long c) (omega arith) c.cover-covered.new.out
     c.cover-covered.ensures.out_after
 
 -- ---- the parts that are lent
 
 pub slice_bounds-before-end : goal.slice_bounds-before-end
-slice_bounds-before-end c = let g = c.args in
+slice_bounds-before-end c =
+    let g = c.args in
     let t = covered_most g.opening.held g.opening.framing g.frame.now in
-    omega (arith, counted (goal.at.slice_bounds-before-end c).After-cover-covered, filled (goal.at.slice_bounds-before-end c).After-cover-covered)
+    let d = (goal.at.slice_bounds-before-end c).After-cover-covered in
+    omega (arith, counted d, filled d)
 
 pub slice_bounds-mac_is_right-end-2 : goal.slice_bounds-mac_is_right-end-2
-slice_bounds-mac_is_right-end-2 c = let g = c.args in
+slice_bounds-mac_is_right-end-2 c =
+    let g = c.args in
     let t = covered_most g.opening.held g.opening.framing g.frame.now in
-    sym (length-take-le _ _ (omega (arith, counted (goal.at.slice_bounds-mac_is_right-end-2 c).After-cover-covered, filled (goal.at.slice_bounds-mac_is_right-end-2 c).After-cover-covered)))
+    let d = (goal.at.slice_bounds-mac_is_right-end-2 c).After-cover-covered in
+    sym (length-take-le _ _ (omega (arith, counted d, filled d)))
 
 pub mac_is_right-requires : goal.mac_is_right-requires
-mac_is_right-requires c = let g = c.args in
-    let p = placed c.args.opening c.args.frame.now c.requires.opens in
+mac_is_right-requires c =
+    let g = c.args in
+    let p = placed g.opening g.frame.now c.requires.opens in
     let t = covered_most g.opening.held g.opening.framing g.frame.now in record {
       lent = c.requires.lent;
       expanded_value = (
@@ -75,19 +84,17 @@ mac_is_right-requires c = let g = c.args in
 
 pub returns : goal.returns
 unfolding mac_right field_in
-returns c = let o = c.args.opening in
+returns c =
+    let o = c.args.opening in
     let f = c.args.frame.now in
     let k = framed o.framing in
     let mac = c.block_at-mac in
     let security = security_of k (security_length o.held) f in
     c.mac_is_right.ensures
-    ∙ ap₂ (λ (s t : List ℕ). same (mac_under o.held s (take c.cover-covered.result (before (goal.at.returns c).After-cover-covered)) t) mac.result)
+    ∙ ap₂ (λ (s t : List ℕ). same (mac_under o.held s (take c.cover-covered.result c.cover-covered.new.out) t) mac.result)
     (security_lent o f c.requires.opens) (text_lent o f c.requires.opens)
     ∙ ap₂ (λ (b m : List ℕ). same (mac_under o.held security b (text_in o.held k f)) m) (covered (goal.at.returns c).After-cover-covered)
     (mac.ensures ∙ mac_read o f c.requires.opens)
-
-pub overflow_sub-security : goal.overflow_sub-security
-overflow_sub-security c = omega (arith, placed c.args.opening c.args.frame.now c.requires.opens)
 
 pub slice_bounds-mac_is_right-count : goal.slice_bounds-mac_is_right-count
 slice_bounds-mac_is_right-count c = omega (arith, placed c.args.opening c.args.frame.now c.requires.opens)
@@ -105,7 +112,4 @@ pub slice_bounds-mac_is_right-start-2 : goal.slice_bounds-mac_is_right-start-2
 slice_bounds-mac_is_right-start-2 c = omega (arith, placed c.args.opening c.args.frame.now c.requires.opens)
 
 pub slice_bounds-mac_is_right-end-3 : goal.slice_bounds-mac_is_right-end-3
-slice_bounds-mac_is_right-end-3 c = omega (
-  arith,
-  placed c.args.opening c.args.frame.now c.requires.opens,
-)
+slice_bounds-mac_is_right-end-3 c = omega (arith, placed c.args.opening c.args.frame.now c.requires.opens)

@@ -59,16 +59,16 @@ pub returns-in_default : goal.returns-in_default
 unfolding with_tag
 returns-in_default c = let t = c.args.tag in
     simp (
-      ne_eqb t 27 (λ e. c.in_default.rest.0.0.0.0.0.0.0.0.0.0.0.1 e),
-      ne_eqb t 30 (λ e. c.in_default.rest.0.0.0.0.0.0.0.0.0.0.1 e),
-      ne_eqb t 22 (λ e. c.in_default.rest.0.0.0.0.0.0.0.0.0.1 e),
-      ne_eqb t 25 (λ e. c.in_default.rest.0.0.0.0.0.0.0.0.1 e),
-      ne_eqb t 26 (λ e. c.in_default.rest.0.0.0.0.0.0.0.1 e),
-      ne_eqb t 21 (λ e. c.in_default.rest.0.0.0.0.0.0.1 e),
-      ne_eqb t 31 (λ e. c.in_default.rest.0.0.0.0.0.1 e),
-      ne_eqb t 16 (λ e. c.in_default.rest.0.0.0.0.1 e),
-      ne_eqb t 49 (λ e. c.in_default.rest.0.0.0.1 e),
-      ne_eqb t 2 (λ e. c.in_default.rest.0.0.1 e),
-      ne_eqb t 3 (λ e. c.in_default.rest.0.1 e),
-      ne_eqb t 7 (λ e. c.in_default.rest.1 e),
+      ne_eqb t 27 (omega arith),
+      ne_eqb t 30 (omega arith),
+      ne_eqb t 22 (omega arith),
+      ne_eqb t 25 (omega arith),
+      ne_eqb t 26 (omega arith),
+      ne_eqb t 21 (omega arith),
+      ne_eqb t 31 (omega arith),
+      ne_eqb t 16 (omega arith),
+      ne_eqb t 49 (omega arith),
+      ne_eqb t 2 (omega arith),
+      ne_eqb t 3 (omega arith),
+      ne_eqb t 7 (omega arith),
     )

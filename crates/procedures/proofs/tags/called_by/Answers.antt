@@ -8,11 +8,11 @@ use lib.ListN.{length}
 use Rattle.command_form.specs.Form.{tag_of, value_of, measured}
 use Rattle.procedures.specs.Procedures.{procedure_is, procedures, with_tag}
 use Rattle.procedures.proofs.Calling.{called-none, called_so, called_wrong}
-use Rattle.procedures.proofs.tags.called_by.Goals.{After-sized}
+use Rattle.procedures.proofs.tags.called_by.Goals.{After-with_tag-found, After-sized}
 use Rattle.procedures.proofs.tags.called_by.Goals as goal
 
-tagged : (c : tie.After-with-tag) → c.with_tag.result ≡ with_tag (tag_of c.before.before.before.args.command.now) procedures
-tagged c = c.with_tag.ensures ∙ ap (λ (t : ℕ). with_tag t procedures) c.before.octet-at.ensures
+tagged : (c : After-with_tag-found) → c.with_tag-found.result ≡ with_tag (tag_of c.args.command.now) procedures
+tagged c = c.with_tag-found.ensures ∙ ap (λ (t : ℕ). with_tag t procedures) c.octet_at.ensures
 
 -- whether its length is right
 

@@ -1,7 +1,6 @@
 -- `put_bodies` is right because each turn puts the body of the next entry behind those before it.
 -- Assumes nothing.
 use mathlib.Core.Path.{◌≡◌, ◌∙◌}
-use Prim.Native.Nat.{◌-◌}
 use native.Mathlib.Omega.{arith}
 use lib.ListN.{length}
 use Rattle.writing.proofs.Puts.{put_none, put_then}

@@ -1,7 +1,6 @@
 -- `put_body` is right because each turn puts the next octet of the body behind those before it.
 -- Assumes nothing.
 use mathlib.Core.Path.{◌≡◌, ap, ◌∙◌}
-use Prim.Native.Nat.{◌-◌}
 use native.Mathlib.Omega.{arith}
 use Rattle.octets.proofs.Parts.{length_part}
 use Rattle.bodies.specs.Body.{body_in}

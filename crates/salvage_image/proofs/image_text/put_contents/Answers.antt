@@ -1,7 +1,6 @@
 -- `put_contents` is right because each turn puts the next entry behind those before it.
 -- Assumes nothing.
 use mathlib.Core.Path.{◌≡◌}
-use Prim.Native.Nat.{◌-◌}
 use native.Mathlib.Omega.{arith}
 use lib.ListN.{length}
 use Rattle.writing.proofs.Puts.{put_none, put_then}

@@ -1,7 +1,6 @@
 -- `put_each` is right because each turn puts the line of the next entry behind those before it.
 -- Assumes nothing.
 use mathlib.Core.Path.{◌≡◌}
-use Prim.Native.Nat.{◌-◌}
 use native.Mathlib.Omega.{arith}
 use Rattle.image.specs.Image.{count_of}
 use Rattle.writing.proofs.Puts.{put_none, put_then}

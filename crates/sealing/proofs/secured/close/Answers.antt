@@ -41,7 +41,7 @@ slice_bounds-field_octets-end-then-framing c = sym (length-take-le _ _ (search r
 pub returns-then-framing : goal.returns-then-framing
 returns-then-framing c = let g = c.args in
     c.put_behind.ensures
-    ∙ with_field_lem g.framing g.n g.output.now present.if1.true c.requires c.field_octets-field.result
+    ∙ with_field_lem g.framing g.n g.output.now c.if-framing.true c.requires c.field_octets-field.result
     c.field_octets-field.ensures
 
 pub returns-else-framing : goal.returns-else-framing

@@ -24,7 +24,7 @@ returns-then-held-eq2 c = let g = c.args in
 
 pub returns : goal.returns
 returns c = let g = c.args in
-    rw (signs g.held.service c.if-held-eq2.false, text_under, mac_under) (record {
+    rw (signs g.held.service c.if-held-eq2.false, text_under, mac_under) record {
       value = c.mac_under.ensures ∙ ap (λ (w : List ℕ). cmac_under w (g.before.now ++ g.clear.now)) c.expand_key-expanded.ensures;
       text_after = c.put.ensures ∙ with_room g.clear.now g.text.now (search rules);
-    })
+    }

@@ -4,11 +4,6 @@ use Rattle.vector_lines.proofs.Reading.{filled}
 use Rattle.vector_lines.proofs.fields.block.Goals as goal
 
 pub returns : goal.returns
-returns c = let g = c.args in
+returns c =
+    let g = c.args in
     filled 16 g.n g.line.now c.field.ensures c.read_octets.ensures
-
-pub field-requires : goal.field-requires
-field-requires c = tt
-
-pub read_octets-requires : goal.read_octets-requires
-read_octets-requires c = tt

@@ -9,6 +9,3 @@ use Rattle.vector_lines.proofs.fields.is_empty.Goals as goal
 
 pub returns : goal.returns
 returns c = ap (λ (s : List ℕ). eqb (length s) 0) c.field.ensures
-
-pub field-requires : goal.field-requires
-field-requires c = tt

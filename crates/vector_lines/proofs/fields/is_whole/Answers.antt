@@ -6,11 +6,6 @@ use Rattle.vector_lines.proofs.fields.is_whole.Goals as goal
 
 pub returns : goal.returns
 unfolding whole_field
-returns c = let g = c.args in
+returns c =
+    let g = c.args in
     all_read 96 g.n g.line.now c.field-text.ensures c.read_octets-count.ensures
-
-pub field-text-requires : goal.field-text-requires
-field-text-requires c = tt
-
-pub read_octets-count-requires : goal.read_octets-count-requires
-read_octets-count-requires c = tt

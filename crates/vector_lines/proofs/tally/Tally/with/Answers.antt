@@ -7,9 +7,3 @@ returns-then-is_right c = (c.more-ran.ensures, rw c.if-is_right.true)
 
 pub returns-else-is_right : goal.returns-else-is_right
 returns-else-is_right c = (c.more-ran.ensures, rw c.if-is_right.false c.more-differ.ensures)
-
-pub more-ran-requires : goal.more-ran-requires
-more-ran-requires c = tt
-
-pub more-differ-requires : goal.more-differ-requires
-more-differ-requires c = tt
