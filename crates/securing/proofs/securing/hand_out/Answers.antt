@@ -7,6 +7,6 @@ use Rattle.securing.proofs.securing.hand_out.Goals as goal
 pub returns : goal.returns
 returns c = let told = c.carried_out.ensures in
     record {
-      answer_value = (told.0 ∙ ap (granted c.args.grant.size) c.requires.made_value.0, told.1);
+      answer_value = (told.0 ∙ ap (granted c.args.grant.size) c.requires.made_value, told.1);
       output_after = c.write_secured.ensures;
     }
