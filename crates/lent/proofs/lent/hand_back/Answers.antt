@@ -3,7 +3,7 @@
 -- an element that is right already
 use mathlib.Core.Path.{◌≡◌, ◌∙◌, refl, subst}
 use mathlib.Core.List.{List}
-use Prim.Native.Nat.{ℕ, ◌+◌, ◌-◌, ◌<◌}
+use Prim.Native.Nat.{ℕ, ◌+◌, ◌<◌}
 use native.Mathlib.Omega.{arith}
 use lib.ListN.{length}
 use lib.Seq.{set-get_or}
@@ -24,7 +24,7 @@ pub loop-i-preserved : goal.loop-i-preserved
 loop-i-preserved c = let at-loop = c.loop-i in
     let test : at-loop.i < 32 = omega arith in
     elim c.if-lent-i.branch [
-      then-lent-i w ↦ rw w.lent-is (filled_more test refl at-loop.invariant)
+      | then-lent-i w ↦ rw w.lent-is (filled_more test refl at-loop.invariant)
       | else-lent-i w ↦ rw w.lent-is (filled-kept test w.if-lent-i.false at-loop.invariant)
     ]
 

@@ -1,7 +1,6 @@
 -- `numbers_in` is right because after i turns the first i numbers are those of the lent list.
 -- Assumes nothing.
 use mathlib.Core.Path.{◌∙◌, refl}
-use Prim.Native.Nat.{◌-◌}
 use native.Mathlib.Omega.{arith}
 use Rattle.octets.proofs.Parts.{tab_self}
 use Rattle.octets.proofs.Rules.{filled_none, filled_more, filled_all}
