@@ -12,7 +12,7 @@ use lib.ListN.{length, get_or-eq_default}
 use Rattle.octets.specs.Lists.{octet}
 use Rattle.octets.proofs.Alls.{and_left, and_right}
 use Rattle.octets.proofs.Parts.{length_part}
-use Rattle.kinds.specs.Kinds.{Kind, kind_is, kind_of, named}
+use Rattle.kinds.specs.Kinds.{kind_is, kind_of, named}
 use Rattle.kinds.specs.declared.kinds.Kind as code
 use Rattle.kinds.specs.declared.kinds.Named.{Named}
 use Rattle.kinds.specs.declared.kinds.Named.TheVariants as naming

@@ -11,7 +11,7 @@ use borrow.Author.Tests.{lt-ltb, le-ltb}
 use lib.ListN.{length, set, take, drop, length-append, length-drop, get_or-append}
 use lib.Seq.{sets, sets-eq, length-take-le, get_or-take, get_or-drop, get_or-append-add}
 use Rattle.octets.specs.Lists.{octet}
-use Rattle.octets.specs.Numbers.{bytes, number}
+use Rattle.octets.specs.Numbers.{bytes}
 use Rattle.octets.proofs.Outside.{Outside, Changed}
 use Rattle.octets.proofs.Parts.{octet_past}
 use Rattle.reports.specs.Report.{first_octet, laid}

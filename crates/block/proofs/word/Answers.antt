@@ -3,7 +3,6 @@
 use borrow.Author.Rules.{rules}
 use native.Mathlib.Omega.{arith}
 use mathlib.Core.Path.{◌≡◌, refl}
-use Prim.Native.Nat.{◌≤◌, ◌<◌, ◌-◌}
 use lib.Dec.{lit<, lit≤}
 use Rattle.octets.specs.Numbers.{number}
 use Rattle.block.proofs.Halves.{word_more, word_room, octet_more}

@@ -2,7 +2,6 @@
 -- Assumes nothing.
 use native.Mathlib.Omega.{arith}
 use mathlib.Core.Path.{◌∙◌}
-use Prim.Native.Nat.{◌-◌}
 use Rattle.check_field.proofs.Fields.{field_next, field-all}
 use Rattle.check_field.proofs.check_field.Goals as goal
 

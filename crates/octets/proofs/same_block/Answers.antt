@@ -4,7 +4,7 @@ use borrow.Author.Count.{below_more}
 use native.Mathlib.Omega.{arith}
 use mathlib.Core.Path.{◌≡◌, ◌∙◌, refl, sym, ap, ap₂}
 use mathlib.Core.List.{List}
-use Prim.Native.Nat.{ℕ, ◌-◌}
+use Prim.Native.Nat.{ℕ}
 use lib.Bits.{bit_or, xor_self}
 use lib.ListN.{length}
 use Rattle.octets.specs.Lists.{octet}

@@ -3,7 +3,6 @@
 use borrow.Author.Rules.{rules}
 use native.Mathlib.Omega.{arith}
 use mathlib.Core.Path.{refl}
-use Prim.Native.Nat.{◌-◌}
 use Rattle.check_field.proofs.Entering.{word_none, word_next, word-all}
 use Rattle.check_field.proofs.wide.enter_word.Goals as goal
 

@@ -1,7 +1,7 @@
 -- `make` is right because each turn makes the next of the stores, as many as there are of the first j.
 -- Assumes nothing.
 use mathlib.Core.Path.{◌≡◌, sym, ap, ◌∙◌}
-use Prim.Native.Nat.{◌-◌, min}
+use Prim.Native.Nat.{min}
 use native.Mathlib.Omega.{arith}
 use lib.ListN.{length}
 use Rattle.marks.specs.Stores.{stores_in, store_at}

@@ -1,7 +1,6 @@
 -- `copy_at` is right because each turn writes the octet at its place.
 -- Assumes nothing.
 use mathlib.Core.Path.{refl}
-use Prim.Native.Nat.{◌-◌}
 use Rattle.octets.specs.Lists.{part}
 use Rattle.octets.proofs.Rules.{filled_none, filled_more, filled_all}
 use borrow.Author.Rules.{rules}
