@@ -11,7 +11,7 @@ use lib.ListN.{length, set}
 use lib.Seq.{get_or-drop, set-get_or}
 use Rattle.octets.specs.Lists.{Octets}
 use Rattle.image.specs.Image.{count_of, valid_image}
-use Rattle.image.proofs.ValidImages.{Valid, valid, spi_once}
+use Rattle.image.proofs.ValidImages.{Valid, spi_once}
 use Rattle.association.specs.Association.{index_of}
 use Rattle.numbers.specs.Numbers.{number_of, agrees}
 use Rattle.association.specs.Search.{has_spi, with_spi}

@@ -104,7 +104,8 @@ pub extern "C" fn xistalvo_ground_check(
     frame: &[u8],
     output: &mut [u8],
 ) -> u64
-    ensures { Checks notes.old events.old image.old numbers.old desk kind field frame.now output.old result notes.new events.new image.new numbers.new output.new }
+    ensures { Checks notes.old events.old image.old numbers.old desk kind field frame.now output.old
+        result notes.new events.new image.new numbers.new output.new }
 {
     let found = ground_check_noted(
         *notes, events, image, numbers, desk, kind, field, frame, output,

@@ -101,10 +101,10 @@ returns c = let g = c.args in
     let number = c.new_number-number.ensures (version_of g.image.now) (body_of g.image.now g.entry) (sym c.allowed.ensures ∙ c.if-not-allowed.false) in
     record {
       answer = past-6 p g.image.now g.entry g.last g.value.now g.room (asked ∙ c.if-not-asks.false)
-        (sym c.allowed.ensures ∙ c.if-not-allowed.false)
-        (sym c.key_known.ensures ∙ c.if-not-key_known.false)
-        (sym c.key_ready.ensures ∙ c.if-not-key_ready.false)
-        (le-ltb g.room _ (omega arith));
+          (sym c.allowed.ensures ∙ c.if-not-allowed.false)
+          (sym c.key_known.ensures ∙ c.if-not-key_known.false)
+          (sym c.key_ready.ensures ∙ c.if-not-key_ready.false)
+          (le-ltb g.room _ (omega arith));
       entry = refl;
       number = number;
       stores = c.plan_of.ensures ∙ ap (λ (n : ℕ). p.stores g.image.now g.entry n g.value.now) number;

@@ -1,7 +1,6 @@
 -- `apply` is right because before each block `out` begins with as many octets of the result, and the rest of it stands as it was.
 -- Assumes nothing.
 use mathlib.Core.Path.{refl}
-use Prim.Native.Nat.{◌-◌}
 use native.Mathlib.Omega.{arith}
 use Rattle.block.specs.Halves.{value}
 use Rattle.gctr.proofs.Counting.{streaming_none, streaming_more, streaming_all, streaming_refused}

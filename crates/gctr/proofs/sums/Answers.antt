@@ -1,7 +1,7 @@
 -- `sums` is right because each turn adds one pair of octets, and the turns go through sixteen of them.
 -- Assumes nothing.
 use mathlib.Core.Path.{refl, sym, ap}
-use Prim.Native.Nat.{ℕ, ◌-◌}
+use Prim.Native.Nat.{ℕ}
 use lib.Seq.{get_or-drop}
 use Rattle.octets.specs.Lists.{octet}
 use Rattle.octets.specs.Xor.{◌⊕◌, xors}

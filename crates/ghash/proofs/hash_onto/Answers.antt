@@ -3,7 +3,6 @@
 use native.Mathlib.Omega.{arith}
 use native.Mathlib.Nat.{sub-zero}
 use mathlib.Core.Path.{sym, ◌∙◌}
-use Prim.Native.Nat.{◌-◌}
 use Rattle.block.specs.Halves.{value}
 use Rattle.ghash.proofs.Hashing.{hash_more, hash_none}
 use Rattle.ghash.proofs.hash_onto.Goals as goal

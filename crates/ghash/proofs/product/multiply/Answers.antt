@@ -3,7 +3,7 @@
 use borrow.Author.Rules.{rules}
 use native.Mathlib.Omega.{arith}
 use mathlib.Core.Path.{◌≡◌, refl, ap, ap₂, ◌∙◌}
-use Prim.Native.Nat.{ℕ, ◌/◌, ◌-◌, ◌^◌}
+use Prim.Native.Nat.{ℕ, ◌/◌, ◌^◌}
 use Rattle.octets.specs.Xor.{◌⊕◌}
 use Rattle.ghash.specs.Product.{next_v, product_rounds}
 use Rattle.block.specs.Halves.{value}

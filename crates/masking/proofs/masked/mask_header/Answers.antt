@@ -1,7 +1,7 @@
 -- `mask_header` is right because each turn writes one octet of the masked header, and nothing is written where the output has no room for all.
 -- Assumes nothing.
 use mathlib.Core.Path.{◌≡◌, ◌∙◌, refl}
-use Prim.Native.Nat.{◌-◌, min}
+use Prim.Native.Nat.{min}
 use native.Mathlib.Nat.{min-le_right}
 use native.Mathlib.Omega.{arith}
 use lib.ListN.{length, length-set}

@@ -15,7 +15,7 @@ use Rattle.numbers.specs.Numbers.{accepts}
 use Rattle.numbers.specs.Stores.{stores_for}
 use Rattle.association.specs.declared.held.Held.{Held}
 use Rattle.services.specs.SecurityHeader.{security_length}
-use Rattle.protection.specs.Protection.{number_in, mac_right, clear_length}
+use Rattle.protection.specs.Protection.{mac_right, clear_length}
 use Rattle.opening.specs.Steps.{Opens}
 use Rattle.judging.specs.Answers.{Test, first}
 use Rattle.judging.specs.Replies.{receiving_tests}

@@ -1,0 +1,10 @@
+-- `run_lines` is safe and ends because the number of lines rises at each turn up to a bound.
+-- Assumes nothing.
+use Prim.Native.Nat.{◌-◌, ◌≤◌}
+use Rattle.cmac_vectors.proofs.run_lines.Given as goal
+
+abbrev pub invariant-loop-n : goal.invariant-loop-n
+invariant-loop-n g l = l.n ≤ 18446744073709551615
+
+abbrev pub decreases-loop-n : goal.decreases-loop-n
+decreases-loop-n g l = 18446744073709551615 - l.n
