@@ -4,7 +4,7 @@ use lines::read_line;
 use std::io::Read;
 use std::rt::Files;
 use std::{fs, io};
-use vector_lines::Tally;
+use vector_lines::{Tally, tell_unopened};
 
 // What is tested of a line.
 #[derive(Clone, Copy)]
@@ -38,12 +38,15 @@ fn run_lines(file: &mut impl Read, test: Test) -> io::Result<Tally> {
 
 // Runs a file, and writes how many vectors it ran and how many differ.
 pub(crate) fn run(
-    rt: &(impl Files + Print),
+    rt: &(impl Files + Print + Eprint),
     test: Test,
     path: &str,
     name: &[u8],
     what: &[u8],
 ) -> io::Result<()> {
-    let mut file = fs::open(rt, path)?;
+    let mut file = match fs::open(rt, path) {
+        Ok(file) => file,
+        Err(error) => return tell_unopened(rt, path, error),
+    };
     run_lines(&mut file, test)?.print(rt, name, what)
 }

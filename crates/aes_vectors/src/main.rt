@@ -8,18 +8,18 @@ use files::{Test, run};
 use std::io;
 use std::rt::Files;
 
-fn encryptions(rt: &(impl Files + Print), path: &str, name: &[u8]) -> io::Result<()> {
+fn encryptions(rt: &(impl Files + Print + Eprint), path: &str, name: &[u8]) -> io::Result<()> {
     run(rt, Test::Encryption, path, name, b"encryptions")
 }
 
 // The appendices of FIPS 197.
-fn appendices(rt: &(impl Files + Print)) -> io::Result<()> {
+fn appendices(rt: &(impl Files + Print + Eprint)) -> io::Result<()> {
     run(rt, Test::Word, "FIPS197A3.txt", b"FIPS 197 A.3", b"words")?;
     encryptions(rt, "FIPS197C3.txt", b"FIPS 197 C.3")
 }
 
 // NIST's four files of known answers.
-fn known_answers(rt: &(impl Files + Print)) -> io::Result<()> {
+fn known_answers(rt: &(impl Files + Print + Eprint)) -> io::Result<()> {
     encryptions(rt, "ECBGFSbox256.txt", b"ECBGFSbox256")?;
     encryptions(rt, "ECBKeySbox256.txt", b"ECBKeySbox256")?;
     encryptions(rt, "ECBVarTxt256.txt", b"ECBVarTxt256")?;
@@ -27,7 +27,7 @@ fn known_answers(rt: &(impl Files + Print)) -> io::Result<()> {
 }
 
 // NIST's file of messages of several blocks.
-fn messages(rt: &(impl Files + Print)) -> io::Result<()> {
+fn messages(rt: &(impl Files + Print + Eprint)) -> io::Result<()> {
     encryptions(rt, "ECBMMT256.txt", b"ECBMMT256")
 }
 

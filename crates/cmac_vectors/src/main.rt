@@ -7,7 +7,7 @@ use lines::read_line;
 use macs::is_example;
 use std::io::Read;
 use std::{fs, io};
-use vector_lines::Tally;
+use vector_lines::{Tally, tell_unopened};
 
 const PATH: &str = "SP80038B.txt";
 
@@ -28,6 +28,9 @@ fn run_lines(file: &mut impl Read) -> io::Result<Tally> {
 }
 
 fn main(rt: HostRuntime) -> io::Result<()> {
-    let mut file = fs::open(&rt, PATH)?;
+    let mut file = match fs::open(&rt, PATH) {
+        Ok(file) => file,
+        Err(error) => return tell_unopened(&rt, PATH, error),
+    };
     run_lines(&mut file)?.print(&rt, b"SP 800-38B", b"MACs")
 }

@@ -5,7 +5,7 @@ use lines::read_line;
 use std::io::Read;
 use std::rt::Files;
 use std::{fs, io};
-use vector_lines::{Tally, is_empty};
+use vector_lines::{Tally, is_empty, tell_unopened};
 
 // What is tested of an entry: that it is sealed and opened as published, or that it is refused with one bit of a field changed.
 #[derive(Clone, Copy)]
@@ -57,12 +57,15 @@ fn run_lines(file: &mut impl Read, trial: Trial) -> io::Result<Tally> {
 
 // Runs a file, and writes how many entries it ran and how many differ.
 pub(crate) fn run(
-    rt: &(impl Files + Print),
+    rt: &(impl Files + Print + Eprint),
     trial: Trial,
     path: &str,
     name: &[u8],
     what: &[u8],
 ) -> io::Result<()> {
-    let mut file = fs::open(rt, path)?;
+    let mut file = match fs::open(rt, path) {
+        Ok(file) => file,
+        Err(error) => return tell_unopened(rt, path, error),
+    };
     run_lines(&mut file, trial)?.print(rt, name, what)
 }

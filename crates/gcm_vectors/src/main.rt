@@ -10,7 +10,7 @@ use std::io;
 use std::rt::Files;
 
 fn refused(
-    rt: &(impl Files + Print),
+    rt: &(impl Files + Print + Eprint),
     changed: usize,
     path: &str,
     name: &[u8],
@@ -19,7 +19,7 @@ fn refused(
     run(rt, Trial::Refused(changed), path, name, what)
 }
 
-fn run_refusals(rt: &(impl Files + Print), path: &str, name: &[u8]) -> io::Result<()> {
+fn run_refusals(rt: &(impl Files + Print + Eprint), path: &str, name: &[u8]) -> io::Result<()> {
     refused(rt, TAG, path, name, b"refusals of a changed tag")?;
     refused(
         rt,
@@ -38,7 +38,7 @@ fn run_refusals(rt: &(impl Files + Print), path: &str, name: &[u8]) -> io::Resul
 }
 
 // A file, sealed, opened, and refused with a bit changed.
-fn run_file(rt: &(impl Files + Print), path: &str, name: &[u8]) -> io::Result<()> {
+fn run_file(rt: &(impl Files + Print + Eprint), path: &str, name: &[u8]) -> io::Result<()> {
     run(rt, Trial::Sealed, path, name, b"seals")?;
     run(rt, Trial::Opened, path, name, b"openings")?;
     run_refusals(rt, path, name)
