@@ -14,11 +14,11 @@ build() { # SOURCE-IN-C
         fail "The toolchain compiles programs for x86-64 alone, and what an emulator takes says nothing; this is $(uname -m)."
     command -v rt >/dev/null || fail "The Rattle toolchain (rt), which makes the program, is not on the path."
     need_openssl
-    rt check cipher_bench >"$room/check" 2>&1 || {
+    (cd crates/cipher_bench && rt run </dev/null) >"$room/check" 2>&1 || { # with no argument it says how it is used
         cat "$room/check" >&2
         exit 1
     }
-    cp target/bin/cipher_bench "$room/rattle"
+    cp crates/cipher_bench/out/cipher_bench "$room/rattle"
     "$compiler" -O2 -o "$room/openssl" "$1" -lcrypto
 }
 
