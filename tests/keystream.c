@@ -1,7 +1,8 @@
 /* 'A refusal .. decrypts nothing' (document 01, 'What comes back'), in what the compiler made of the module. GCM decrypts by adding a
  * keystream to the data, the encryptions of IV || 2, IV || 3 and so on. Checks under service 2 run one instruction after another, by the
  * processor's trap flag, on a stack of their own; after each instruction the octets that it changed in the stack and in the output, and the
- * vector registers, are looked at for a block of this keystream and for the clear data.
+ * vector registers, are looked at for a block of this keystream and for the clear data; and the general registers for the halves of a block,
+ * as the module may hold it in two words of 64 bits and write it nowhere.
  *
  *   a check that is done shows every block of the keystream, and the clear data;
  *   one that is refused shows none of it;
@@ -38,7 +39,7 @@ enum { LAST = 64 * 7 + 63, WINDOW = 100 };
 
 struct sign {
     uint8_t octets[BLOCK];
-    bool is_seen;
+    bool is_seen, is_half_seen[2];
 };
 
 static struct sign of_tag[2], of_data[MOST_BLOCKS + 1];
@@ -55,6 +56,19 @@ static void look_at(const void *at)
 {
     look_for(of_tag, 2, at);
     look_for(of_data, of_data_count, at);
+}
+
+/* A half of a block in a register, its first octet the highest or the lowest. */
+static void look_for_half(struct sign *signs, size_t count, uint64_t word)
+{
+    for (size_t i = 0; i < count; i++) {
+        for (size_t half = 0; half < 2; half++) {
+            uint64_t as_it_lies;
+            memcpy(&as_it_lies, signs[i].octets + half * sizeof as_it_lies, sizeof as_it_lies);
+            signs[i].is_half_seen[half] = signs[i].is_half_seen[half] || word == as_it_lies || word == __builtin_bswap64(as_it_lies);
+        }
+        signs[i].is_seen = signs[i].is_seen || (signs[i].is_half_seen[0] && signs[i].is_half_seen[1]);
+    }
 }
 
 static size_t seen_among(const struct sign *signs, size_t count)
@@ -97,6 +111,10 @@ static void look_after_step(const mcontext_t *machine)
     look_at_changes(output, output_before, 0, sizeof output);
     for (size_t i = 0; i < 16; i++) {
         look_at(machine->fpregs->_xmm[i].element);
+    }
+    for (int i = REG_R8; i <= REG_RSP; i++) {
+        look_for_half(of_tag, 2, (uint64_t)machine->gregs[i]);
+        look_for_half(of_data, of_data_count, (uint64_t)machine->gregs[i]);
     }
     steps++;
 }
