@@ -826,8 +826,9 @@ def stands_on():
     """What each crate stands on, of those that are in this repository, as crates.txt says."""
     path = os.path.join(os.path.dirname(os.path.abspath(__file__)), "..", "crates.txt")
     lines = [line.split("#")[0].strip() for line in open(path, encoding="utf-8")]
-    crates = dict(line.split(":") for line in lines if line)
-    return {name: {below for below in crates[name].split() if below in crates} for name in crates}
+    # A name may have a word behind it, as that of a static library has.
+    crates = {head.split()[0]: below.split() for head, below in (line.split(":") for line in lines if line)}
+    return {name: {other for other in below if other in crates} for name, below in crates.items()}
 
 
 def everything_below(name, arrows):

@@ -5,14 +5,13 @@ use mathlib.Core.Path.{◌≡◌, ◌∙◌}
 use mathlib.Core.Bool.{true, false, not}
 use mathlib.Core.List.{List, ◌++◌}
 use native.Mathlib.Omega.{arith}
+use Rattle.std.specs.Prelude.{Some, None}
 use Rattle.image.specs.Image.{valid_image}
 use Rattle.numbers.specs.Numbers.{agrees}
-use Rattle.association.specs.declared.search.Found.TheVariants as found
 use Rattle.judging.specs.Answers.{Test, first}
 use Rattle.judging.proofs.First.{passes, passed}
 use Rattle.command_form.specs.Form.{value_of}
 use Rattle.procedures.specs.Procedures.{procedure_is, procedure_of, called}
-use Rattle.procedures.specs.declared.procedure.Called.TheVariants as calls
 use Rattle.procedures.specs.declared.procedure.Procedure as code
 use Rattle.procedures.proofs.Calling.{called-long}
 use Rattle.addressing.specs.Addressing.{wrong_desk, calls_none, entry_named, is_nothing, address_tests}
@@ -24,31 +23,23 @@ module _ (image last : List ℕ) (desk : ℕ) (command : List ℕ) where
   abbrev front : ℕ
   front = first (address_tests image last desk command)
 
-  pub by_1 : valid_image image ≡ false → front ≡ 1
-  unfolding first
-  by_1 v = rw v
-
   module _ (v : valid_image image ≡ true) where
-    pub by_2 : agrees image last ≡ false → front ≡ 2
-    unfolding first
-    by_2 a = rw (v, a)
-
     module _ (a : agrees image last ≡ true) where
       pub by_19 : wrong_desk desk command ≡ true → front ≡ 19
       unfolding first
       by_19 w = rw (v, a, w)
 
       module _ (s : wrong_desk desk command ≡ false) where
-        pub by_13 : called command ≡ calls.Nothing → front ≡ 13
+        pub by_13 : called command ≡ None → front ≡ 13
         unfolding first
         by_13 n = rw (v, a, s, n)
 
-        module _ (p : code.Procedure) (c : called command ≡ calls.Procedure p) where
-          pub by_14 : entry_named (procedure_is p) image desk (value_of command) ≡ found.Nothing → front ≡ 14
+        module _ (p : code.Procedure) (c : called command ≡ Some p) where
+          pub by_14 : entry_named (procedure_is p) image desk (value_of command) ≡ None → front ≡ 14
           unfolding first
           by_14 n = rw (v, a, s, c, n)
 
-          pub addresses : (e : ℕ) → entry_named (procedure_is p) image desk (value_of command) ≡ found.At e → Addresses image last desk command p e
+          pub addresses : (e : ℕ) → entry_named (procedure_is p) image desk (value_of command) ≡ Some e → Addresses image last desk command p e
           unfolding first
           addresses e f =
               record {

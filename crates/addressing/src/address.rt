@@ -7,19 +7,19 @@ ghost use Rattle.procedures.specs.Procedures.{procedure_is};
 ghost use Rattle.addressing.specs.Addressing.{wrong_desk, entry_named};
 ghost use Rattle.addressing.specs.Steps.{Addressed};
 
-use association::{Found, find_spi};
+use association::find_spi;
 use bodies::KEY_OFFICE;
 use command_form::FRONT;
-use judging::{Answer, no_desk};
-use numbers::{Numbers, Standing, test_standing};
+use judging::{Refusal, no_desk};
+use numbers::{Numbers, test_standing};
 use octets::two_at;
-use procedures::{Called, Procedure, called_by, key_command};
+use procedures::{Procedure, called_by, key_command};
 
-// The procedure that a command calls and the entry that it names, or the first refusal.
+// The procedure that a command calls and the entry that it names.
 #[derive(Clone, Copy)]
-pub enum Address {
-    To(Procedure, u8),
-    Refused(Answer),
+pub struct Address {
+    pub procedure: Procedure,
+    pub entry: u8,
 }
 
 // A number that is no desk's, or a key command from another desk than the key office's.
@@ -30,43 +30,46 @@ fn wrong_desk(desk: u8, command: &[u8]) -> bool
 }
 
 // The entry that a command names, to that desk. One that names none gets entry 0, which it neither reads nor changes.
-fn entry_named(image: &[u8], procedure: Procedure, desk: u8, command: &[u8]) -> Found
+fn entry_named(image: &[u8], procedure: Procedure, desk: u8, command: &[u8]) -> Option<u8>
     ensures { result ≡ entry_named (procedure_is procedure) image.now desk (value_of command.now) }
 {
     if procedure.names() {
         return find_spi(image, desk, two_at(command, FRONT));
     }
-    Found::At(0)
+    Some(0)
 }
 
 // Past 1 and 2: 19, 13 and 14.
-fn address_within(image: &[u8], numbers: Numbers, desk: u8, command: &[u8]) -> Address
+fn address_within(
+    image: &[u8],
+    numbers: Numbers,
+    desk: u8,
+    command: &[u8],
+) -> Result<Address, Refusal>
     requires { (valid_image image.now ≡ true) × (agrees image.now numbers.last ≡ true) }
     ensures { Addressed result image.now numbers.last desk command.now }
 {
     if wrong_desk(desk, command) {
-        return Address::Refused(Answer::WrongDesk);
+        return Err(Refusal::WrongDesk);
     }
-    let called = called_by(command);
-    match called {
-        Called::Nothing => Address::Refused(Answer::BadCommand),
-        Called::Procedure(procedure) => {
-            let found = entry_named(image, procedure, desk, command);
-            match found {
-                Found::At(entry) => Address::To(procedure, entry),
-                Found::Nothing => Address::Refused(Answer::UnknownSpi),
-            }
-        }
-    }
+    let Some(procedure) = called_by(command) else {
+        return Err(Refusal::BadCommand);
+    };
+    let Some(entry) = entry_named(image, procedure, desk, command) else {
+        return Err(Refusal::UnknownSpi);
+    };
+    Ok(Address { procedure, entry })
 }
 
-pub fn address_of(image: &[u8], numbers: Numbers, desk: u8, command: &[u8]) -> Address
+// The address of a command, or the first refusal.
+pub fn address_of(
+    image: &[u8],
+    numbers: Numbers,
+    desk: u8,
+    command: &[u8],
+) -> Result<Address, Refusal>
     ensures { Addressed result image.now numbers.last desk command.now }
 {
-    let standing = test_standing(image, numbers);
-    match standing {
-        Standing::BadImage => Address::Refused(Answer::BadImage),
-        Standing::BadMarks => Address::Refused(Answer::BadMarks),
-        Standing::Good => address_within(image, numbers, desk, command),
-    }
+    test_standing(image, numbers)?;
+    address_within(image, numbers, desk, command)
 }

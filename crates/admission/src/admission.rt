@@ -9,11 +9,11 @@ ghost use Rattle.judging.specs.Verdicts.{Admitted};
 ghost use Rattle.judging.specs.Wants.{wanted, securing_wants, checking_wants};
 
 use crate::wanted::{RECEIVING, SENDING, spi_on, wanted_by};
-use association::{Found, find};
+use association::find;
 use frame::{field_ok, framing_obeyed};
-use judging::{Admission, Answer, Said, no_desk};
-use kinds::{Framing, Named, kind_of};
-use numbers::{Numbers, Standing, test_standing};
+use judging::{Admission, Refusal, Said, no_desk};
+use kinds::{Framing, Kind, kind_of};
+use numbers::{Numbers, test_standing};
 
 // A frame of a kind, past 1, 2 and 19: 3, 12 and 4.
 fn admit_kind(
@@ -25,21 +25,21 @@ fn admit_kind(
     direction: u8,
     frame: &[u8],
     secured: bool,
-) -> Admission
+) -> Result<Admission, Refusal>
     requires { (valid_image image.now ≡ true) × (agrees image.now numbers.last ≡ true) × (no_desk said.desk ≡ false) × (kind_said said ≡ framed framing) }
     ensures { Admitted result image.now numbers.last (wanted spi direction said frame.now) said secured frame.now }
 {
     if !framing_obeyed(framing, frame, secured) {
-        return Admission::Refused(Answer::BadFrame);
+        return Err(Refusal::BadFrame);
     }
     if !field_ok(framing, frame) {
-        return Admission::Refused(Answer::WrongCheckField);
+        return Err(Refusal::WrongCheckField);
     }
-    let found = find(image, wanted_by(spi, direction, said, framing, frame));
-    match found {
-        Found::At(entry) => Admission::To(framing, entry),
-        Found::Nothing => Admission::Refused(Answer::NoEntry),
-    }
+    let wanted = wanted_by(spi, direction, said, framing, frame);
+    let Some(entry) = find(image, wanted) else {
+        return Err(Refusal::NoEntry);
+    };
+    Ok(Admission { framing, entry })
 }
 
 // `asked` is the kind that the caller's number names, if it names one.
@@ -47,41 +47,29 @@ fn admit(
     image: &[u8],
     numbers: Numbers,
     said: Said,
-    asked: Named,
+    asked: Option<Kind>,
     spi: u16,
     direction: u8,
     frame: &[u8],
     secured: bool,
-) -> Admission
+) -> Result<Admission, Refusal>
     requires { asked ≡ named said.kind }
     ensures { Admitted result image.now numbers.last (wanted spi direction said frame.now) said secured frame.now }
 {
-    let standing = test_standing(image, numbers);
-    match standing {
-        Standing::BadImage => Admission::Refused(Answer::BadImage),
-        Standing::BadMarks => Admission::Refused(Answer::BadMarks),
-        Standing::Good => {
-            if no_desk(said.desk) {
-                return Admission::Refused(Answer::WrongDesk);
-            }
-            match asked {
-                Named::Kind(kind) => admit_kind(
-                    image,
-                    numbers,
-                    said,
-                    Framing {
-                        kind,
-                        field: said.field,
-                    },
-                    spi,
-                    direction,
-                    frame,
-                    secured,
-                ),
-                Named::Nothing => Admission::Refused(Answer::BadFrame),
-            }
-        }
+    test_standing(image, numbers)?;
+    if no_desk(said.desk) {
+        return Err(Refusal::WrongDesk);
     }
+    let Some(kind) = asked else {
+        return Err(Refusal::BadFrame);
+    };
+    let framing = Framing {
+        kind,
+        field: said.field,
+    };
+    admit_kind(
+        image, numbers, said, framing, spi, direction, frame, secured,
+    )
 }
 
 // A clear frame that is to be sent under an SPI.
@@ -91,7 +79,7 @@ pub fn admit_sending(
     said: Said,
     spi: u16,
     frame: &[u8],
-) -> Admission
+) -> Result<Admission, Refusal>
     ensures { Admitted result image.now numbers.last (securing_wants said spi frame.now) said false frame.now }
 {
     let asked = kind_of(said.kind);
@@ -99,7 +87,12 @@ pub fn admit_sending(
 }
 
 // A secured frame that came in, under the SPI that it holds.
-pub fn admit_receiving(image: &[u8], numbers: Numbers, said: Said, frame: &[u8]) -> Admission
+pub fn admit_receiving(
+    image: &[u8],
+    numbers: Numbers,
+    said: Said,
+    frame: &[u8],
+) -> Result<Admission, Refusal>
     ensures { Admitted result image.now numbers.last (checking_wants said frame.now) said true frame.now }
 {
     let asked = kind_of(said.kind);

@@ -7,7 +7,7 @@ ghost use Rattle.judging.specs.Wants.{wanted};
 
 use association::Wanted;
 use judging::Said;
-use kinds::{Framing, Named, kind_of};
+use kinds::{Framing, Kind, kind_of};
 use octets::two_at;
 
 pub(crate) const SENDING: u8 = 1;
@@ -38,12 +38,12 @@ pub(crate) fn wanted_by(
 }
 
 // The SPI on a secured frame; a number that names no kind has no header before it.
-pub(crate) fn spi_on(asked: Named, frame: &[u8]) -> u16
+pub(crate) fn spi_on(asked: Option<Kind>, frame: &[u8]) -> u16
     ensures { result ≡ spi_in (kind_behind asked) frame.now }
 {
     match asked {
-        Named::Kind(kind) => two_at(frame, kind.header_length(frame)),
-        Named::Nothing => two_at(frame, 0),
+        Some(kind) => two_at(frame, kind.header_length(frame)),
+        None => two_at(frame, 0),
     }
 }
 

@@ -1,14 +1,13 @@
 // The vectors of AES-256.
-use vector_lines::{block, is_empty, is_field, key, spells};
+use vector_lines::{is_empty, is_field, key, octets, spells};
 
+// Whether field 1 is word n of the expanded key.
 fn is_in_expanded_key(n: u64, line: &[u8]) -> bool {
-    if 60 <= n {
-        return false;
-    }
     let expanded = cipher::expand_key(key(line));
-    let at = 4 * n as usize;
-    let end = at + 4;
-    is_field(line, 1, &expanded[at..end])
+    let (words, _) = expanded.as_chunks::<4>();
+    words
+        .get(n as usize)
+        .is_some_and(|word| is_field(line, 1, word))
 }
 
 // A line `KEY WORD`, the n-th of its file, with word n of the expanded key.
@@ -23,7 +22,7 @@ fn is_result(line: &[u8], block: [u8; 16]) -> bool {
 // A line `KEY BLOCK RESULT`: both engines must give the result.
 pub(crate) fn is_encryption(line: &[u8]) -> bool {
     let is_read = spells(line, 0, 32) & spells(line, 1, 16) & is_empty(line, 3);
-    let by_octets = cipher::encrypt(key(line), block(line, 1));
-    let by_words = word_cipher::encrypt(key(line), block(line, 1));
+    let by_octets = cipher::encrypt(key(line), octets(line, 1));
+    let by_words = word_cipher::encrypt(key(line), octets(line, 1));
     is_read & is_result(line, by_octets) & is_result(line, by_words)
 }

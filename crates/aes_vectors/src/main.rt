@@ -2,37 +2,38 @@
 #![tactic(auto)]
 
 mod blocks;
-mod files;
 
-use files::{Test, run};
+use blocks::{is_encryption, is_word};
 use std::io;
 use std::rt::Files;
+use vector_lines::run_file;
 
-fn encryptions(rt: &(impl Files + Print + Eprint), path: &str, name: &[u8]) -> io::Result<()> {
-    run(rt, Test::Encryption, path, name, b"encryptions")
+// NIST's four files of known answers, and its file of messages of several blocks.
+const NIST: [(&str, &str); 5] = [
+    ("ECBGFSbox256.txt", "ECBGFSbox256"),
+    ("ECBKeySbox256.txt", "ECBKeySbox256"),
+    ("ECBVarTxt256.txt", "ECBVarTxt256"),
+    ("ECBVarKey256.txt", "ECBVarKey256"),
+    ("ECBMMT256.txt", "ECBMMT256"),
+];
+
+// A word of the expanded key in each line.
+fn run_words(rt: &(impl Files + Print + Eprint), path: &str, name: &str) -> io::Result<()> {
+    run_file(rt, path, name, "words", |n, line| Some(is_word(n, line)))
 }
 
-// The appendices of FIPS 197.
-fn appendices(rt: &(impl Files + Print + Eprint)) -> io::Result<()> {
-    run(rt, Test::Word, "FIPS197A3.txt", b"FIPS 197 A.3", b"words")?;
-    encryptions(rt, "FIPS197C3.txt", b"FIPS 197 C.3")
-}
-
-// NIST's four files of known answers.
-fn known_answers(rt: &(impl Files + Print + Eprint)) -> io::Result<()> {
-    encryptions(rt, "ECBGFSbox256.txt", b"ECBGFSbox256")?;
-    encryptions(rt, "ECBKeySbox256.txt", b"ECBKeySbox256")?;
-    encryptions(rt, "ECBVarTxt256.txt", b"ECBVarTxt256")?;
-    encryptions(rt, "ECBVarKey256.txt", b"ECBVarKey256")
-}
-
-// NIST's file of messages of several blocks.
-fn messages(rt: &(impl Files + Print + Eprint)) -> io::Result<()> {
-    encryptions(rt, "ECBMMT256.txt", b"ECBMMT256")
+// An encryption of a block in each line.
+fn run_blocks(rt: &(impl Files + Print + Eprint), path: &str, name: &str) -> io::Result<()> {
+    run_file(rt, path, name, "encryptions", |_, line| {
+        Some(is_encryption(line))
+    })
 }
 
 fn main(rt: HostRuntime) -> io::Result<()> {
-    appendices(&rt)?;
-    known_answers(&rt)?;
-    messages(&rt)
+    run_words(&rt, "FIPS197A3.txt", "FIPS 197 A.3")?;
+    run_blocks(&rt, "FIPS197C3.txt", "FIPS 197 C.3")?;
+    for (path, name) in NIST {
+        run_blocks(&rt, path, name)?;
+    }
+    Ok(())
 }

@@ -9,12 +9,12 @@ use native.Mathlib.Decide.{ℕ_discrete}
 use native.Mathlib.Omega.{arith}
 use borrow.Author.Tests.{eqb-true}
 use lib.Dec.{eqb}
+use Rattle.std.specs.List.{find, range_with_len}
+use Rattle.std.specs.Prelude.{Option, Some, None}
 use Rattle.octets.proofs.Alls.{and_left, and_right}
 use Rattle.bodies.specs.Body.{owner_of}
 use Rattle.image.specs.Image.{version_of, count_of, spi_of, body_of}
 use Rattle.association.specs.Search.{sees, has_spi, matches, first_from, entry_for}
-use Rattle.association.specs.declared.search.Found.{Found}
-use Rattle.association.specs.declared.search.Found.TheVariants as found
 use Rattle.association.specs.declared.search.Wanted.{Wanted}
 use Rattle.image.proofs.ValidImages.{Valid, spi_once}
 
@@ -36,14 +36,14 @@ fails_from i bound test e behind p l h = by_place (ℕ_discrete p i)
     by_place (yes q) = ap test q ∙ e
     by_place (no q) = behind p (omega arith) h
 
--- At gives the first number at which the test passes, and Nothing says that there is none
-pub first-at : (n i : ℕ) (test : ℕ → Bool) (k : ℕ) → first_from i n test ≡ found.At k → First i n test k
+-- Some gives the first number at which the test passes, and None says that there is none
+pub first-at : (n i : ℕ) (test : ℕ → Bool) (k : ℕ) → first_from i n test ≡ Some k → First i n test k
 unfolding first_from
 first-at zero i test k e = let z : ◌≡◌ {A = ℕ} 0 1 = cc in absurd (omega arith)
 first-at (suc n) i test k e = by_test (test i) refl e (first-at n (i + 1) test k)
   where
-    by_test : (t : Bool) → test i ≡ t → cond t (found.At i) (first_from (i + 1) n test) ≡ found.At k
-        → (first_from (i + 1) n test ≡ found.At k → First (i + 1) n test k) → First i (suc n) test k
+    by_test : (t : Bool) → test i ≡ t → cond t (Some i) (first_from (i + 1) n test) ≡ Some k
+        → (first_from (i + 1) n test ≡ Some k → First (i + 1) n test k) → First i (suc n) test k
     by_test true t here later =
         let same : i ≡ k = cc in
         record { from = omega arith; to = omega arith; passes = sym (ap test same) ∙ t; before = λ p l h. absurd (omega arith) }
@@ -51,20 +51,20 @@ first-at (suc n) i test k e = by_test (test i) refl e (first-at n (i + 1) test k
         let f : First (i + 1) n test k = later here in
         record { from = omega arith; to = omega arith; passes = f.passes; before = fails_from i k test t f.before }
 
-pub first_nothing : (n i : ℕ) (test : ℕ → Bool) → first_from i n test ≡ found.Nothing → (p : ℕ) → i ≤ p → p < i + n → test p ≡ false
+pub first_nothing : (n i : ℕ) (test : ℕ → Bool) → first_from i n test ≡ None → (p : ℕ) → i ≤ p → p < i + n → test p ≡ false
 unfolding first_from
 first_nothing zero i test e = λ p l h. absurd (omega arith)
 first_nothing (suc n) i test e = by_test (test i) refl e (first_nothing n (i + 1) test)
   where
-    by_test : (t : Bool) → test i ≡ t → cond t (found.At i) (first_from (i + 1) n test) ≡ found.Nothing
-        → (first_from (i + 1) n test ≡ found.Nothing → (p : ℕ) → i + 1 ≤ p → p < i + 1 + n → test p ≡ false)
+    by_test : (t : Bool) → test i ≡ t → cond t (Some i) (first_from (i + 1) n test) ≡ None
+        → (first_from (i + 1) n test ≡ None → (p : ℕ) → i + 1 ≤ p → p < i + 1 + n → test p ≡ false)
         → (p : ℕ) → i ≤ p → p < i + suc n → test p ≡ false
     by_test true t here later = let z : ◌≡◌ {A = ℕ} 0 1 = cc in absurd (omega arith)
     by_test false t here later = λ p l h. fails_from i (i + 1 + n) test t (later here) p l (omega arith)
 
 -- a search of the numbers from i to k, one at a time
 module _ (k i : ℕ) (test : ℕ → Bool) where
-  pub first-here : i < k → test i ≡ true → first_from i (k - i) test ≡ found.At i
+  pub first-here : i < k → test i ≡ true → first_from i (k - i) test ≡ Some i
   unfolding first_from
   first-here h e = let left : k - i ≡ suc (k - (i + 1)) = omega arith in ap (λ (n : ℕ). first_from i n test) left ∙ simp e
 
@@ -72,17 +72,23 @@ module _ (k i : ℕ) (test : ℕ → Bool) where
   unfolding first_from
   first_next h e = let left : k - i ≡ suc (k - (i + 1)) = omega arith in ap (λ (n : ℕ). first_from i n test) left ∙ simp e
 
-  pub first-none : k ≤ i → first_from i (k - i) test ≡ found.Nothing
+  pub first-none : k ≤ i → first_from i (k - i) test ≡ None
   unfolding first_from
   first-none h = let left : k - i ≡ 0 = omega arith in ap (λ (n : ℕ). first_from i n test) left
 
+-- the library's search of the n numbers from i on finds it
+pub first-found : (n i : ℕ) (test : ℕ → Bool) → find test (range_with_len i n) ≡ first_from i n test
+unfolding first_from
+first-found zero i test = refl
+first-found (suc n) i test = ap (cond (test i) (Some i)) (first-found n (i + 1) test)
+
 -- ---- the entry that is found
 
-pub found_at : (image : List ℕ) (w : Wanted) (i : ℕ) → entry_for image w ≡ found.At i → First 0 (count_of image) (matches image w) i
+pub found_at : (image : List ℕ) (w : Wanted) (i : ℕ) → entry_for image w ≡ Some i → First 0 (count_of image) (matches image w) i
 unfolding entry_for
 found_at image w i e = first-at (count_of image) 0 (matches image w) i e
 
-pub found_nothing : (image : List ℕ) (w : Wanted) → entry_for image w ≡ found.Nothing
+pub found_nothing : (image : List ℕ) (w : Wanted) → entry_for image w ≡ None
     → (i : ℕ) → i < count_of image → matches image w i ≡ false
 unfolding entry_for
 found_nothing image w e i h = first_nothing (count_of image) 0 (matches image w) e i (omega arith) (omega arith)
@@ -110,14 +116,14 @@ pub matched_once : (image : List ℕ) → Valid image → (w : Wanted) (i j : �
 matched_once image v w i j hi hj mi mj = spi_once image v i j hi hj (matched_spi image w i mi ∙ sym (matched_spi image w j mj))
 
 pub found-matching : (image : List ℕ) → Valid image → (w : Wanted) (i : ℕ) → i < count_of image → matches image w i ≡ true
-    → entry_for image w ≡ found.At i
+    → entry_for image w ≡ Some i
 found-matching image v w i h m = by_answer (entry_for image w) refl
   where
-    by_answer : (f : Found) → entry_for image w ≡ f → f ≡ found.At i
-    by_answer (found.At k) e =
+    by_answer : (f : Option ℕ) → entry_for image w ≡ f → f ≡ Some i
+    by_answer (Some k) e =
         let f : First 0 (count_of image) (matches image w) k = found_at image w k e in
-        ap (λ (x : ℕ). found.At x) (matched_once image v w k i (omega (arith, f.to)) h f.passes m)
-    by_answer found.Nothing e =
+        ap (λ (x : ℕ). Some x) (matched_once image v w k i (omega (arith, f.to)) h f.passes m)
+    by_answer None e =
         let none : matches image w i ≡ false = found_nothing image w e i h in
         let z : ◌≡◌ {A = ℕ} 0 1 = cc in
         absurd (omega arith)

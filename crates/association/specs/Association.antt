@@ -1,7 +1,7 @@
 -- An association as a call sees it: the body of the entry that matches, the version by which the body is read, its key, the entry's number, and
 -- the number that names it in an IV.
 -- Assumes nothing.
-use Rattle.std.specs.Prelude.{ℕ, Bool, true, false, cond, List, []}
+use Rattle.std.specs.Prelude.{ℕ, Bool, true, false, cond, List, [], Option, Some, None}
 use Rattle.octets.specs.Lists.{part}
 use Rattle.bodies.specs.Body.{service_of, kind_in, direction_of, state_of, window_of, mask_of}
 use Rattle.image.specs.Image.{version_of, layout, spi_of, body_of, key_of, mark_in}
@@ -9,8 +9,6 @@ use Rattle.numbers.specs.Numbers.{number_of}
 use Rattle.association.specs.Search.{entry_for}
 use Rattle.association.specs.declared.entry.Entry.{Entry}
 use Rattle.association.specs.declared.held.Held.{Held}
-use Rattle.association.specs.declared.search.Found.{Found}
-use Rattle.association.specs.declared.search.Found.TheVariants as found
 use Rattle.association.specs.declared.search.Wanted.{Wanted}
 
 pub record Association : Type 0 where
@@ -66,15 +64,15 @@ abbrev pub the_one : Match → Association
 the_one (one a) = a
 the_one none = record { version = 0; body = []; key = part 0 32 []; number = 0; naming = 0 }
 
-abbrev pub match_at : List ℕ → List ℕ → Found → Match
-match_at image last (found.At i) = one (association_of image last i)
-match_at image last found.Nothing = none
+abbrev pub match_at : List ℕ → List ℕ → Option ℕ → Match
+match_at image last (Some i) = one (association_of image last i)
+match_at image last None = none
 
 -- the association that the search finds
 unfoldable pub matching : List ℕ → List ℕ → Wanted → Match
 matching image last w = match_at image last (entry_for image w)
 
 -- the entry that it finds, and 0 for none
-abbrev pub index_of : Found → ℕ
-index_of (found.At i) = i
-index_of found.Nothing = 0
+abbrev pub index_of : Option ℕ → ℕ
+index_of (Some i) = i
+index_of None = 0

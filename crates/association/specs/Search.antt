@@ -1,12 +1,10 @@
 -- Document 01, 'What comes back', answer 4, and document 02, requests 2, 5 and 10: what a frame and its SPI ask of an entry, and the search,
 -- which ends at the first entry that matches. It is made for a desk, and finds what that desk sees alone.
 -- Assumes nothing.
-use Rattle.std.specs.Prelude.{ℕ, zero, suc, ◌+◌, ◌/◌, ◌%◌, ◌^◌, Bool, cond, not, ◌&&◌, ◌||◌, List, eqb, ltb}
+use Rattle.std.specs.Prelude.{ℕ, zero, suc, ◌+◌, ◌/◌, ◌%◌, ◌^◌, Bool, cond, not, ◌&&◌, ◌||◌, List, eqb, ltb, Option, Some, None}
 use Rattle.kinds.specs.Kinds.{has_map, kind_of}
 use Rattle.bodies.specs.Body.{kind_in, direction_of, state_of, spacecraft_of, channel_of, holds_set, map_of, owner_of, key_office, operational}
 use Rattle.image.specs.Image.{version_of, count_of, spi_of, body_of}
-use Rattle.association.specs.declared.search.Found.{Found}
-use Rattle.association.specs.declared.search.Found.TheVariants as found
 use Rattle.association.specs.declared.search.Wanted.{Wanted}
 
 -- whether a channel is in a set of eight bits, the lowest for channel 0
@@ -43,13 +41,13 @@ unfoldable pub matches : List ℕ → Wanted → ℕ → Bool
 matches image w i = has_spi image w.desk w.spi i && body_serves (version_of image) (body_of image i) w
 
 -- the first of the n numbers from i on at which a test passes
-unfoldable pub first_from : ℕ → ℕ → (ℕ → Bool) → Found
-first_from i zero test = found.Nothing
-first_from i (suc n) test = cond (test i) (found.At i) (first_from (i + 1) n test)
+unfoldable pub first_from : ℕ → ℕ → (ℕ → Bool) → Option ℕ
+first_from i zero test = None
+first_from i (suc n) test = cond (test i) (Some i) (first_from (i + 1) n test)
 
-unfoldable pub entry_for : List ℕ → Wanted → Found
+unfoldable pub entry_for : List ℕ → Wanted → Option ℕ
 entry_for image w = first_from 0 (count_of image) (matches image w)
 
 -- the entry with an SPI, whatever its direction, kind and state
-unfoldable pub with_spi : List ℕ → ℕ → ℕ → Found
+unfoldable pub with_spi : List ℕ → ℕ → ℕ → Option ℕ
 with_spi image desk spi = first_from 0 (count_of image) (has_spi image desk spi)

@@ -8,4 +8,4 @@ mod search;
 
 pub use entry::{Entry, entry_at};
 pub use held::{Held, held_at};
-pub use search::{Found, Wanted, find, find_spi, serves_channel};
+pub use search::{Wanted, find, find_spi, serves_channel};

@@ -10,14 +10,7 @@ use bodies::{
     spacecraft_of, state_of,
 };
 use image::{body_at, count_of, spi_of, version_of};
-use kinds::{Named, kind_of};
-
-// The index of an entry, or none.
-#[derive(Clone, Copy)]
-pub enum Found {
-    At(u8),
-    Nothing,
-}
+use kinds::kind_of;
 
 // What a desk, a frame and its SPI ask of an entry.
 #[derive(Clone, Copy)]
@@ -57,8 +50,8 @@ fn has_map(number: u8) -> bool
     ensures { result ≡ has_map (kind_of number) }
 {
     match kind_of(number) {
-        Named::Kind(kind) => 0 < kind.most_map(),
-        Named::Nothing => false,
+        Some(kind) => 0 < kind.most_map(),
+        None => false,
     }
 }
 
@@ -107,34 +100,25 @@ fn entry_matches(image: &[u8], wanted: Wanted, index: u8) -> bool
 }
 
 // The entry with an SPI, whatever its direction, kind and state.
-pub fn find_spi(image: &[u8], desk: u8, spi: u16) -> Found
+pub fn find_spi(image: &[u8], desk: u8, spi: u16) -> Option<u8>
     ensures { result ≡ with_spi image.now desk spi }
 {
-    let count = count_of(image);
-    let mut i: u8 = 0;
-    loop {
-        if count <= i {
-            break Found::Nothing;
-        }
-        if has_spi(image, desk, spi, i) {
-            break Found::At(i);
-        }
-        i += 1;
-    }
+    (0..count_of(image)).find(|i| has_spi(image, desk, spi, *i))
 }
 
-// The search of the contents. It ends at the first entry that matches.
-pub fn find(image: &[u8], wanted: Wanted) -> Found
+// The search of the contents. It ends at the first entry that matches. Document 01 names its form: a loop that yields the entry's index by
+// `break`, or none.
+pub fn find(image: &[u8], wanted: Wanted) -> Option<u8>
     ensures { result ≡ entry_for image.now wanted }
 {
     let count = count_of(image);
     let mut i: u8 = 0;
     loop {
         if count <= i {
-            break Found::Nothing;
+            break None;
         }
         if entry_matches(image, wanted, i) {
-            break Found::At(i);
+            break Some(i);
         }
         i += 1;
     }

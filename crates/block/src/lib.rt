@@ -29,19 +29,10 @@ fn word(s: &[u8], at: usize) -> u64
     ensures { result ≡ number 8 (drop at s.now) }
 {
     let mut w: u64 = 0;
-    let mut k: usize = 0;
-    while k < 8 {
+    for k in 0..8 {
         w = w * 256 + octet_behind(s, at, k) as u64;
-        k += 1;
     }
     w
-}
-
-// The number that four octets make.
-fn joined(a: u8, b: u8, c: u8, d: u8) -> u32
-    ensures { result ≡ a * 2 ^ 24 + b * 2 ^ 16 + c * 2 ^ 8 + d }
-{
-    a as u32 * 0x0100_0000 + b as u32 * 0x0001_0000 + c as u32 * 0x0100 + d as u32
 }
 
 // The eight octets from `at` on, all of them inside: a whole block is read with no test for each octet. They are joined by fours: of eight at
@@ -50,8 +41,8 @@ fn word_inside(s: &[u8], at: usize) -> u64
     requires { at + 8 ≤ length s.now }
     ensures { result ≡ number 8 (drop at s.now) }
 {
-    let high = joined(s[at], s[at + 1], s[at + 2], s[at + 3]);
-    let low = joined(s[at + 4], s[at + 5], s[at + 6], s[at + 7]);
+    let high = u32::from_be_bytes([s[at], s[at + 1], s[at + 2], s[at + 3]]);
+    let low = u32::from_be_bytes([s[at + 4], s[at + 5], s[at + 6], s[at + 7]]);
     high as u64 * 0x1_0000_0000 + low as u64
 }
 

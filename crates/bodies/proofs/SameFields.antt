@@ -6,9 +6,9 @@ use mathlib.Core.Logic.{inl, inr}
 use mathlib.Core.List.{List}
 use Prim.Native.Nat.{ℕ, ◌+◌, ◌≤◌}
 use native.Mathlib.Omega.{arith}
+use Rattle.std.specs.Prelude.{Option, Some, None}
 use Rattle.kinds.specs.Kinds.{named}
-use Rattle.kinds.specs.declared.kinds.Named.{Named}
-use Rattle.kinds.specs.declared.kinds.Named.TheVariants as naming
+use Rattle.kinds.specs.declared.kinds.Kind as code
 use Rattle.octets.proofs.Outside.{Changed, same_number, same-part}
 use Rattle.bodies.specs.Body.{service_of, kind_in, direction_of, state_of, spacecraft_of, channel_of, map_of, window_of, mask_of}
 use Rattle.bodies.specs.Body.{owner_of, kind_ok, mark_ok, body_ok}
@@ -46,9 +46,9 @@ pub same-owner : (version : ℕ) {body other : List ℕ} {at n : ℕ} → at + n
     → owner_of version other ≡ owner_of version body
 same-owner version h c = rw (c.outside (owner_place (layout_of version)) (inr h))
 
-same_kind : (version : ℕ) (body other : List ℕ) → SameFields body other → (x : Named) → kind_ok version x other ≡ kind_ok version x body
-same_kind version body other f (naming.Kind k) = cc
-same_kind version body other f naming.Nothing = refl
+same_kind : (version : ℕ) (body other : List ℕ) → SameFields body other → (x : Option code.Kind) → kind_ok version x other ≡ kind_ok version x body
+same_kind version body other f (Some k) = cc
+same_kind version body other f None = refl
 
 -- they obey the rules alike if their marks do and their owners are the same, serve alike, and protect alike
 pub same-rules : (version : ℕ) (body other : List ℕ) → SameFields body other → mark_ok version other ≡ mark_ok version body

@@ -9,13 +9,12 @@ use native.Mathlib.Omega.{arith}
 use borrow.Author.Tests.{eqb-true, leb-true, ltb-true, eq-eqb, ne_eqb}
 use lib.Dec.{eqb, leb}
 use lib.ListN.{length, get_or-eq_default}
+use Rattle.std.specs.Prelude.{Option, Some, None}
 use Rattle.octets.specs.Lists.{octet}
 use Rattle.octets.proofs.Alls.{and_left, and_right}
 use Rattle.octets.proofs.Parts.{length_part}
 use Rattle.kinds.specs.Kinds.{kind_is, kind_of, named}
 use Rattle.kinds.specs.declared.kinds.Kind as code
-use Rattle.kinds.specs.declared.kinds.Named.{Named}
-use Rattle.kinds.specs.declared.kinds.Named.TheVariants as naming
 use Rattle.bodies.specs.Body.{service_of, kind_in, direction_of, state_of, spacecraft_of, channel_of, holds_set, map_of, window_of, mask_of, mark_of, owner_of}
 use Rattle.bodies.specs.Body.{first_desk, last_desk, operational, most_window, channel_ok, kind_ok, window_ok, body_ok}
 use Rattle.bodies.specs.Layout.{mask_place, mask_length}
@@ -27,7 +26,7 @@ length-mask body = length_part mask_place mask_length body
 -- the kind's number names one; spacecraft, virtual channels and MAP are what it allows, and the mask covers its header alone
 pub record KindKept (version : ℕ) (body : List ℕ) : Type 0 where
   pub number : (1 ≤ kind_in body) × (kind_in body ≤ 4)
-  pub is_named : (k : code.Kind) × (named (kind_in body) ≡ naming.Kind k)
+  pub is_named : (k : code.Kind) × (named (kind_in body) ≡ Some k)
   pub spacecraft : spacecraft_of body ≤ (kind_of (kind_in body)).most_spacecraft
   pub channel : holds_set version body ≡ false → channel_of body ≤ (kind_of (kind_in body)).most_channel
   pub channels : holds_set version body ≡ true → 1 ≤ channel_of body
@@ -51,7 +50,7 @@ between low x high e =
 serving_window : (body : List ℕ) → window_ok body ≡ true → state_of body ≡ operational → (1 ≤ window_of body) × (window_of body ≤ most_window)
 serving_window body e serves = between 1 (window_of body) most_window (rw (eq-eqb (state_of body) operational serves) at e)
 
-named_range : (n : ℕ) (k : code.Kind) → named n ≡ naming.Kind k → (1 ≤ n) × (n ≤ 4)
+named_range : (n : ℕ) (k : code.Kind) → named n ≡ Some k → (1 ≤ n) × (n ≤ 4)
 unfolding named
 named_range zero k e = let z : ◌≡◌ {A = ℕ} 0 1 = cc in absurd (omega arith)
 named_range (suc zero) k e = (omega arith, omega arith)
@@ -60,7 +59,7 @@ named_range (suc (suc (suc zero))) k e = (omega arith, omega arith)
 named_range (suc (suc (suc (suc zero)))) k e = (omega arith, omega arith)
 named_range (suc (suc (suc (suc (suc n))))) k e =
     let other : ℕ = suc (suc (suc (suc (suc n)))) in
-    let none : named other ≡ naming.Nothing =
+    let none : named other ≡ None =
     simp (ne_eqb other 1 (omega arith), ne_eqb other 2 (omega arith), ne_eqb other 3 (omega arith), ne_eqb other 4 (omega arith))
     in
     let z : ◌≡◌ {A = ℕ} 0 1 = cc in
@@ -72,8 +71,8 @@ mask-kept body covered true e passed =
     get_or-eq_default (mask_of body) 0 (omega (arith, length-mask body, leb-true mask_length covered e))
 mask-kept body covered false e passed = eqb-true (octet (mask_of body) covered) 0 passed
 
-kind-kept : (version : ℕ) (body : List ℕ) (x : Named) → named (kind_in body) ≡ x → kind_ok version x body ≡ true → KindKept version body
-kind-kept version body (naming.Kind k) e passed =
+kind-kept : (version : ℕ) (body : List ℕ) (x : Option code.Kind) → named (kind_in body) ≡ x → kind_ok version x body ≡ true → KindKept version body
+kind-kept version body (Some k) e passed =
     let channel-kept : channel_ok version (kind_is k) body ≡ true = search (and_left, and_right) in
     record {
       number = named_range (kind_in body) k e;
@@ -84,7 +83,7 @@ kind-kept version body (naming.Kind k) e passed =
       map = rw e (leb-true (map_of body) (kind_is k).most_map (search (and_left, and_right)));
       mask = rw e (mask-kept body (kind_is k).under_mask (leb mask_length (kind_is k).under_mask) refl (search (and_left, and_right)));
     }
-kind-kept version body naming.Nothing e passed = let z : ◌≡◌ {A = ℕ} 0 1 = cc in absurd (omega arith)
+kind-kept version body None e passed = let z : ◌≡◌ {A = ℕ} 0 1 = cc in absurd (omega arith)
 
 pub valid-body : (version : ℕ) (body : List ℕ) → body_ok version body ≡ true → ValidBody version body
 unfolding body_ok

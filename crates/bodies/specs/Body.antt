@@ -1,12 +1,11 @@
 -- Document 01, 'The image', and document 02, requests 2, 5, 9 and 10: the body of an entry, what its octets hold and what is allowed there. Octets
 -- are counted from the body's first. A field whose place, size or rule depends on the image's version is given it.
 -- Assumes nothing.
-use Rattle.std.specs.Prelude.{ℕ, ◌^◌, Bool, false, cond, not, ◌&&◌, ◌||◌, List, eqb, leb, ltb}
+use Rattle.std.specs.Prelude.{ℕ, ◌^◌, Bool, false, cond, not, ◌&&◌, ◌||◌, List, eqb, leb, ltb, Option, Some, None}
 use Rattle.octets.specs.Lists.{octet, part}
 use Rattle.octets.specs.Numbers.{number_at}
 use Rattle.kinds.specs.Kinds.{Kind, kind_is, named}
-use Rattle.kinds.specs.declared.kinds.Named.{Named}
-use Rattle.kinds.specs.declared.kinds.Named.TheVariants as naming
+use Rattle.kinds.specs.declared.kinds.Kind as code
 use Rattle.marks.specs.Gray.{code_length, ungray}
 use Rattle.bodies.specs.Layout.{service_place, kind_place, direction_place, state_place, spacecraft_place, channel_place, map_place, window_place}
 use Rattle.bodies.specs.Layout.{mask_place, mask_length, id_length, owner_place, layout_of}
@@ -105,13 +104,13 @@ abbrev pub mask_ok : Kind → List ℕ → Bool
 mask_ok kind body = leb mask_length kind.under_mask || eqb (octet (mask_of body) kind.under_mask) 0
 
 -- the kind's number names one; spacecraft, virtual channels and MAP are what it allows, and the mask covers its header alone
-abbrev pub kind_ok : ℕ → Named → List ℕ → Bool
-kind_ok version (naming.Kind k) body =
+abbrev pub kind_ok : ℕ → Option code.Kind → List ℕ → Bool
+kind_ok version (Some k) body =
     leb (spacecraft_of body) (kind_is k).most_spacecraft
     && channel_ok version (kind_is k) body
     && leb (map_of body) (kind_is k).most_map
     && mask_ok (kind_is k) body
-kind_ok version naming.Nothing body = false
+kind_ok version None body = false
 
 -- a window with which an association may serve
 abbrev pub most_window : ℕ

@@ -1,5 +1,5 @@
 // Document 01, 'The image', and document 02, requests 2, 5, 9 and 10: the body of an entry, what its octets hold and what is allowed there.
-ghost use Rattle.std.specs.Prelude.{length, ◌≡◌, ◌+◌, ◌<◌, ◌≤◌};
+ghost use Rattle.std.specs.Prelude.{length, ◌≡◌, ◌+◌, ◌<◌, ◌≤◌, Some};
 ghost use Rattle.octets.specs.Lists.{octet};
 ghost use Rattle.octets.specs.Numbers.{number_at};
 ghost use Rattle.kinds.specs.Kinds.{kind_is, named};
@@ -11,7 +11,7 @@ use crate::layout::{
     CHANNEL, CODE_LENGTH, DIRECTION, KIND, MAP, MASK, MASK_LENGTH, SERVICE, SPACECRAFT, STATE,
     WINDOW, layout_of,
 };
-use kinds::{Kind, Named, kind_of};
+use kinds::{Kind, kind_of};
 use octets::{copy_at, four_at, octet_at, two_at};
 
 // The states, in their order; an association serves in the last.
@@ -182,7 +182,7 @@ fn mask_ok(image: &[u8], kind: Kind, version: u8, at: u16) -> bool
 
 // Spacecraft, virtual channels and MAP are what the kind allows, and the mask covers its header alone.
 fn kind_kept(image: &[u8], kind: Kind, version: u8, at: u16) -> bool
-    ensures { result ≡ kind_ok version (Named.Kind kind) (body_in image.now version at) }
+    ensures { result ≡ kind_ok version (Some kind) (body_in image.now version at) }
 {
     (spacecraft_of(image, version, at) <= kind.most_spacecraft())
         & channel_ok(image, kind, version, at)
@@ -195,8 +195,8 @@ fn kind_ok(image: &[u8], version: u8, at: u16) -> bool
     ensures { result ≡ kind_ok version (named (kind_in (body_in image.now version at))) (body_in image.now version at) }
 {
     match kind_of(kind_in(image, version, at)) {
-        Named::Kind(kind) => kind_kept(image, kind, version, at),
-        Named::Nothing => false,
+        Some(kind) => kind_kept(image, kind, version, at),
+        None => false,
     }
 }
 

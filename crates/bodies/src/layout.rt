@@ -56,35 +56,24 @@ const VERSION_ONE: Layout = Layout {
 
 const VERSION_TWO: Layout = Layout {
     version: 2,
-    body: 52,
-    key: 16,
-    mark: 48,
-    extra: 0,
     sets: true,
-    keys: false,
-    owners: false,
+    ..VERSION_ONE
 };
 
 const VERSION_THREE: Layout = Layout {
     version: 3,
     body: 22,
-    key: 16,
     mark: 18,
     extra: 1,
-    sets: true,
     keys: true,
-    owners: false,
+    ..VERSION_TWO
 };
 
 const VERSION_FOUR: Layout = Layout {
     version: 4,
     body: 23,
-    key: 16,
-    mark: 18,
-    extra: 1,
-    sets: true,
-    keys: true,
     owners: true,
+    ..VERSION_THREE
 };
 
 // The layout of a version; another number is read as version 1 is, and is not the number of that layout.

@@ -1,13 +1,17 @@
 -- Bits that enter the register: none, those of a sum, in two parts, and eight.
 -- Assumes nothing.
 use mathlib.Core.Path.{◌≡◌, sym, ap, ap₂, ◌∙◌}
-use Prim.Native.Nat.{ℕ, ◌+◌, ◌-◌, ◌*◌, ◌/◌, ◌%◌, ◌^◌, ◌≤◌, ◌<◌}
+use mathlib.Core.List.{List}
+use Prim.Native.Nat.{ℕ, ◌+◌, ◌*◌, ◌^◌, ◌<◌}
 use native.Mathlib.Omega.{arith}
-use native.Mathlib.Nat.{add_comm, add-zero, mul_assoc, mul_comm, mod-lt, div-one, div-eq_of_lt, div-add-mod'}
+use native.Mathlib.Nat.{add_comm, add-zero, mul_assoc, mul_comm}
 use lib.Bits.{xor_shifted, xor_zero_r}
 use lib.Dec.{lit<}
-use lib.Pow.{shl_lt, shr-shr}
+use lib.Pow.{shl_lt}
+use Rattle.octets.specs.Lists.{octet}
+use Rattle.octets.specs.Numbers.{number}
 use Rattle.octets.specs.Xor.{◌⊕◌}
+use Rattle.octets.proofs.Numbers.{number_step}
 use Rattle.octets.proofs.XorLaws.{xor_assoc, xor-four}
 use Rattle.check_field.specs.Polynomials.{remainder}
 use Rattle.check_field.specs.Register.{shifts, entered, after_bits}
@@ -65,25 +69,18 @@ entered-after r o =
     let moved : o * 256 * 2 ^ 8 ≡ o * 2 ^ 16 = omega arith in
     shifts-xor 8 r (o * 256) ∙ ap (λ (x : ℕ). shifts 8 r ⊕ x) (sym (remainder-shifts 8 0 (o * 256)) ∙ ap (remainder 8) moved)
 
--- ---- the octets of a word, of which `left` bits are left, enter a register of zeros
+-- ---- octets enter a register of zeros, one by one
 
-pub word_none : (w : ℕ) → w < 2 ^ 64 → 0 ≡ after_bits 0 0 (w / 2 ^ 64)
-unfolding shifts
-word_none w h = sym (ap (after_bits 0 0) (div-eq_of_lt h) ∙ after-zeros 0 0)
-
-pub word_next : (left w r t : ℕ) → 8 ≤ left → left ≤ 64 → r ≡ after_bits (64 - left) 0 (w / 2 ^ left) → t ≡ entered r (w / 2 ^ (left - 8) % 256)
-    → t ≡ after_bits (64 - (left - 8)) 0 (w / 2 ^ (left - 8))
-word_next left w r t least most e f =
-    let rest : ℕ = left - 8 in
-    let q : ℕ = w / 2 ^ rest in
-    let whole : left ≡ rest + 8 = omega arith in
-    let bits : 8 + (64 - left) ≡ 64 - rest = omega arith in
-    let front : w / 2 ^ left ≡ q / 256 = ap (λ (k : ℕ). w / 2 ^ k) whole ∙ sym (shr-shr w rest 8) in
+pub octet_entered : (n : ℕ) (s : List ℕ) (r t : ℕ) → octet s n < 256 → r ≡ after_bits (8 * n) 0 (number n s) → t ≡ entered r (octet s n)
+    → t ≡ after_bits (8 * (n + 1)) 0 (number (n + 1) s)
+octet_entered n s r t h e f =
+    let bits : 8 + 8 * n ≡ 8 * (n + 1) = omega arith in
     f
-    ∙ entered-after r (q % 256)
-    ∙ ap (λ (x : ℕ). after_bits 8 x (q % 256)) (e ∙ ap (after_bits (64 - left) 0) front)
-    ∙ after-after 8 (64 - left) 0 (q / 256) (q % 256) (mod-lt q (lit< tt))
-    ∙ ap₂ (λ (k m : ℕ). after_bits k 0 m) bits (div-add-mod' q 256)
+    ∙ entered-after r (octet s n)
+    ∙ ap (λ (x : ℕ). after_bits 8 x (octet s n)) e
+    ∙ after-after 8 (8 * n) 0 (number n s) (octet s n) h
+    ∙ ap₂ (λ (k m : ℕ). after_bits k 0 m) bits (sym (number_step n s))
 
-pub word-all : (left w r : ℕ) → left ≡ 0 → r ≡ after_bits (64 - left) 0 (w / 2 ^ left) → r ≡ after_bits 64 0 w
-word-all left w r none e = rw none at e ∙ ap (after_bits 64 0) (div-one w)
+pub none_entered : 0 ≡ after_bits 0 0 0
+unfolding shifts
+none_entered = sym (after-zeros 0 0)

@@ -16,6 +16,7 @@ pub fn check_field(octets: &[u8]) -> u16
 {
     let table = shift_table();
     let mut register = narrowed(&table, enter_words(octets));
+    // No `for`: of one the compiler lays out each of the seven turns that there may be, and `tests/secrets` counts the reads of the table.
     let mut i: usize = octets.len() / 8 * 8;
     while i < octets.len() {
         register = enter(&table, register, octets[i]);
@@ -28,8 +29,7 @@ pub fn check_field(octets: &[u8]) -> u16
 pub fn field_octets(message: &[u8]) -> [u8; 2]
     ensures { result ≡ bytes 2 (check_field message.now) }
 {
-    let field = check_field(message);
-    [(field / 256) as u8, (field % 256) as u8]
+    check_field(message).to_be_bytes()
 }
 
 // Whether the last two octets of a frame are the field of those before them: then, and only then, the register is 0 after all of them.

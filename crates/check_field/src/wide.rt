@@ -34,24 +34,19 @@ fn enter_wide(register: WideRegister, word: u64) -> WideRegister
     }
 }
 
-fn four_octets(a: u8, b: u8, c: u8, d: u8) -> u32
-    ensures { result ≡ ((a * 256 + b) * 256 + c) * 256 + d }
-{
-    a as u32 * 0x1000000 + b as u32 * 0x10000 + c as u32 * 0x100 + d as u32
-}
-
-// The number that the eight octets at a place make. No place is tested, so that a processor may read them at once.
+// The number that the eight octets at a place make. No place is tested, so that a processor may read them at once. They are joined by fours:
+// of eight at once the compiler makes no load that is wider than an octet.
 fn eight_octets(octets: &[u8], at: usize) -> u64
     requires { at + 8 ≤ length octets.now }
     ensures { result ≡ number_at at 8 octets.now }
 {
-    let high = four_octets(octets[at], octets[at + 1], octets[at + 2], octets[at + 3]);
-    let low = four_octets(
+    let high = u32::from_be_bytes([octets[at], octets[at + 1], octets[at + 2], octets[at + 3]]);
+    let low = u32::from_be_bytes([
         octets[at + 4],
         octets[at + 5],
         octets[at + 6],
         octets[at + 7],
-    );
+    ]);
     high as u64 * 0x1_0000_0000 + low as u64
 }
 
@@ -65,11 +60,8 @@ pub(crate) fn enter_words(octets: &[u8]) -> WideRegister
         third: 0,
         fourth: START,
     };
-    let mut words: usize = 0;
-    while words < octets.len() / 8 {
-        let word = eight_octets(octets, words * 8);
-        register = enter_wide(register, word);
-        words += 1;
+    for words in 0..octets.len() / 8 {
+        register = enter_wide(register, eight_octets(octets, words * 8));
     }
     register
 }
@@ -89,10 +81,8 @@ fn enter_word(table: &[u16; 256], word: u64) -> u16
     ensures { result ≡ after_bits 64 0 word }
 {
     let mut register: u16 = 0;
-    let mut left: u64 = 64;
-    while 0 < left {
-        left -= 8;
-        register = enter(table, register, ((word >> left) % 256) as u8);
+    for octet in word.to_be_bytes() {
+        register = enter(table, register, octet);
     }
     register
 }

@@ -12,7 +12,7 @@ ghost use Rattle.link.specs.Calls.{leaving, left};
 ghost use Rattle.link.specs.Steps.{receiving_reply};
 
 use association::held_at;
-use judging::{Grant, Verdict};
+use judging::Grant;
 use kinds::Framing;
 use link::{Outcome, carried_out, refused};
 use marks::make_all;
@@ -57,10 +57,9 @@ pub(crate) fn check_under(
     let held = held_at(image, entry);
     let opening = opening_of(framing, held, frame);
     let last = numbers.of(entry);
-    let verdict = judge_receiving(tables, image, entry, last, opening, frame, output.len());
-    match verdict {
-        Verdict::Refused(answer) => refused(answer, numbers),
-        Verdict::Granted(grant) => {
+    match judge_receiving(tables, image, entry, last, opening, frame, output.len()) {
+        Err(refusal) => refused(Err(refusal), numbers),
+        Ok(grant) => {
             let plan = grant.plan;
             let made = make_all(image, plan);
             release(tables, grant, made, numbers, opening, frame, output)

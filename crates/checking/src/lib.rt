@@ -9,7 +9,7 @@ ghost use Rattle.link.specs.Calls.{leaving, matched_number, checked};
 
 use admission::admit_receiving;
 use checking::check_under;
-use judging::{Admission, Said};
+use judging::Said;
 use link::{Outcome, refused};
 use numbers::Numbers;
 
@@ -33,13 +33,14 @@ pub fn check_telling(
     ensures output_after { leaving result.outcome image.new output.new ≡ checked image.old numbers.last said frame.now output.old }
     ensures number_value { result.number ≡ matched_number image.old numbers.last said frame.now result.outcome.numbers.last }
 {
-    let admission = admit_receiving(image, numbers, said, frame);
-    match admission {
-        Admission::Refused(answer) => Checked {
-            outcome: refused(answer, numbers),
+    match admit_receiving(image, numbers, said, frame) {
+        Err(refusal) => Checked {
+            outcome: refused(Err(refusal), numbers),
             number: 0,
         },
-        Admission::To(framing, entry) => {
+        Ok(admission) => {
+            let framing = admission.framing;
+            let entry = admission.entry;
             let outcome = check_under(tables, image, numbers, framing, entry, frame, output);
             let after = outcome.numbers;
             Checked {

@@ -1,4 +1,5 @@
 pub mod Cells
 pub mod Examples
 pub mod Laws
+pub mod Rounds
 pub mod Small

@@ -7,10 +7,8 @@ pub(crate) fn add_round_key(expanded: &[u8; 240], round: usize, s: [u8; 16]) -> 
     ensures { result ≡ add_round_key expanded.now round s }
 {
     let mut out = [0u8; 16];
-    let mut i: usize = 0;
-    while i < 16 {
+    for i in 0..16 {
         out[i] = s[i] ^ expanded[16 * round + i];
-        i += 1;
     }
     out
 }

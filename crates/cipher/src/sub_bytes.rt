@@ -11,10 +11,8 @@ pub(crate) fn sub_bytes(table: &[u8; 256], s: [u8; 16]) -> [u8; 16]
     ensures { result ≡ sub_bytes s }
 {
     let mut out = [0u8; 16];
-    let mut i: usize = 0;
-    while i < 16 {
+    for i in 0..16 {
         out[i] = substituted(table, s[i]);
-        i += 1;
     }
     out
 }

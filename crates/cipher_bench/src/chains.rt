@@ -3,36 +3,17 @@
 // Encrypts a block of zeros, then what that gave, and so on.
 pub(crate) fn blocks(key: [u8; 32], count: u64) -> [u8; 16] {
     let expanded = cipher::expand_key(key);
-    let mut block = [0u8; 16];
-    let mut left = count;
-    while left > 0 {
-        let next = cipher::encrypt_block(&expanded, block);
-        block = next;
-        left -= 1;
-    }
-    block
+    (0..count).fold([0; 16], |block, _| cipher::encrypt_block(&expanded, block))
 }
 
 // The last eight words of an expansion.
 fn last_words(expanded: &[u8; 240]) -> [u8; 32] {
     let mut words = [0u8; 32];
-    let mut i: usize = 0;
-    while i < 32 {
-        words[i] = expanded[208 + i];
-        i += 1;
-    }
+    words.copy_from_slice(&expanded[208..]);
     words
 }
 
 // Expands a key, then the last eight words of that as a key, and so on.
 pub(crate) fn keys(key: [u8; 32], count: u64) -> [u8; 32] {
-    let mut last = key;
-    let mut left = count;
-    while left > 0 {
-        let expanded = cipher::expand_key(last);
-        let next = last_words(&expanded);
-        last = next;
-        left -= 1;
-    }
-    last
+    (0..count).fold(key, |last, _| last_words(&cipher::expand_key(last)))
 }

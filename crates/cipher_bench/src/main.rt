@@ -4,7 +4,7 @@
 mod chains;
 mod modes;
 
-use lines::{Number, print, print_octets, read_number};
+use lines::{Hexadecimal, read_number};
 use std::{env, io};
 
 const KEY: [u8; 32] = *b"\
@@ -12,80 +12,47 @@ const KEY: [u8; 32] = *b"\
     \x10\x11\x12\x13\x14\x15\x16\x17\x18\x19\x1a\x1b\x1c\x1d\x1e\x1f";
 
 fn print_line(rt: &impl Print, octets: &[u8]) -> io::Result<()> {
-    print_octets(rt, octets)?;
-    print(rt, b"\n")
+    println!(rt; "{}", Hexadecimal(octets))
 }
 
-fn run_cipher(rt: &impl Print, what: &str, count: u64) -> io::Result<bool> {
-    if what == "blocks" {
-        print_line(rt, &chains::blocks(KEY, count))?;
-        return Ok(true);
+fn print_usage(rt: &impl Print) -> io::Result<()> {
+    println!(rt; "usage: cipher_bench blocks|keys COUNT")?;
+    println!(rt; "       cipher_bench mac|seal SIZE COUNT (a SIZE of at most 2048)")
+}
+
+fn run_cipher(rt: &impl Print, what: &str, count: Option<u64>) -> io::Result<()> {
+    match (what, count) {
+        ("blocks", Some(count)) => print_line(rt, &chains::blocks(KEY, count)),
+        ("keys", Some(count)) => print_line(rt, &chains::keys(KEY, count)),
+        _ => print_usage(rt),
     }
-    if what == "keys" {
-        print_line(rt, &chains::keys(KEY, count))?;
-        return Ok(true);
-    }
-    Ok(false)
 }
 
 // The first message is all zeros.
-fn run_mode(rt: &impl Print, what: &str, size: usize, count: u64) -> io::Result<bool> {
+fn run_mode(rt: &impl Print, what: &str, size: Option<u64>, count: Option<u64>) -> io::Result<()> {
     let mut whole = [0u8; modes::MOST];
-    if modes::MOST < size {
-        return Ok(false);
+    let message = size.and_then(|size| whole.get_mut(..size as usize));
+    match (what, message, count) {
+        ("mac", Some(message), Some(count)) => print_line(rt, &modes::macs(KEY, message, count)),
+        ("seal", Some(message), Some(count)) => print_line(rt, &modes::seals(KEY, message, count)),
+        _ => print_usage(rt),
     }
-    let message = &mut whole[..size];
-    if what == "mac" {
-        print_line(rt, &modes::macs(KEY, message, count))?;
-        return Ok(true);
-    }
-    if what == "seal" {
-        print_line(rt, &modes::seals(KEY, message, count))?;
-        return Ok(true);
-    }
-    Ok(false)
 }
 
-fn number_at(arguments: &[String], place: usize) -> Number {
-    let Some(digits) = arguments.get(place) else {
-        return Number::Nothing;
-    };
+fn number(digits: &String) -> Option<u64> {
     read_number(digits.as_bytes())
 }
 
-// Whether the arguments behind the name are right for it, and the chain was run.
-fn run_named(rt: &impl Print, arguments: &[String], what: &str) -> io::Result<bool> {
-    let Number::Is(first) = number_at(arguments, 2) else {
-        return Ok(false);
-    };
-    if arguments.len() == 3 {
-        return run_cipher(rt, what, first);
+// The first argument is the program's name.
+fn run(rt: &impl Print, arguments: &[String]) -> io::Result<()> {
+    match arguments {
+        [_, what, count] => run_cipher(rt, what.as_str(), number(count)),
+        [_, what, size, count] => run_mode(rt, what.as_str(), number(size), number(count)),
+        _ => print_usage(rt),
     }
-    let Number::Is(second) = number_at(arguments, 3) else {
-        return Ok(false);
-    };
-    if arguments.len() == 4 {
-        run_mode(rt, what, first as usize, second)
-    } else {
-        Ok(false)
-    }
-}
-
-fn run_arguments(rt: &impl Print, arguments: &[String]) -> io::Result<bool> {
-    let Some(what) = arguments.get(1) else {
-        return Ok(false);
-    };
-    run_named(rt, arguments, what.as_str())
 }
 
 fn main(rt: HostRuntime) -> io::Result<()> {
     let arguments: Vec<String> = env::args(&rt)?.collect(rt.alloc())?;
-    if !run_arguments(&rt, arguments.as_slice())? {
-        print(&rt, b"usage: cipher_bench blocks|keys COUNT\n")?;
-        print(
-            &rt,
-            b"       cipher_bench mac|seal SIZE COUNT (a SIZE of at most 2048)\n",
-        )?;
-    }
-    Ok(())
+    run(&rt, arguments.as_slice())
 }

@@ -1,6 +1,6 @@
 // The examples of SP 800-38B, a line `KEY MESSAGE MAC` each.
 use lines::{field, front, read_octets};
-use vector_lines::{block, is_empty, is_field, is_whole, key, spells};
+use vector_lines::{is_empty, is_field, is_whole, key, octets, spells};
 
 const MAC: usize = 2;
 
@@ -15,41 +15,26 @@ fn is_mac_by_words(line: &[u8], head: &[u8], rest: &[u8]) -> bool {
     is_field(line, MAC, &cmac::mac_under(&tables, &expanded, head, rest))
 }
 
-fn with_bit_changed(mac: [u8; 16], at: usize) -> [u8; 16] {
-    let place = at % 16;
-    let mut other = mac;
-    other[place] = other[place] ^ 1;
-    other
-}
-
 // Whether the published MAC is told from one with a bit changed.
 fn is_checked(line: &[u8], head: &[u8], rest: &[u8]) -> bool {
     let key = key(line);
-    let published = block(line, MAC);
-    let other = with_bit_changed(published, head.len());
+    let published = octets(line, MAC);
+    let mut other = published;
+    other[head.len() % 16] ^= 1;
     cmac::check(key, head, rest, published) & !cmac::check(key, head, rest, other)
 }
 
-// The message cut in two at `at`.
+// Whether the message cut in two at `at` has the MAC.
 fn is_mac_of_parts(line: &[u8], message: &[u8], at: usize) -> bool {
-    if message.len() < at {
+    let Some((head, rest)) = message.split_at_checked(at) else {
         return false;
-    }
-    let head = front(message, at);
-    let rest = &message[at..];
+    };
     is_mac(line, head, rest) & is_mac_by_words(line, head, rest) & is_checked(line, head, rest)
 }
 
 // A message is run cut at every place.
 fn is_mac_of(line: &[u8], message: &[u8]) -> bool {
-    let mut at: usize = 0;
-    while at <= message.len() {
-        if !is_mac_of_parts(line, message, at) {
-            return false;
-        }
-        at += 1;
-    }
-    true
+    (0..=message.len()).all(|at| is_mac_of_parts(line, message, at))
 }
 
 pub(crate) fn is_example(line: &[u8]) -> bool {

@@ -5,10 +5,8 @@ use mathlib.Core.List.{List, [], ◌∷◌}
 use Prim.Native.Nat.{ℕ, zero, suc, ◌+◌, ◌-◌, ◌*◌, ◌/◌, ◌%◌, ◌^◌, ◌<◌}
 use native.Mathlib.Omega.{arith}
 use lib.Bits.{xor_shr, xor_mod}
-use lib.ListN.{length}
-use Rattle.octets.specs.Lists.{octet, tab, part}
+use Rattle.octets.specs.Lists.{octet, part}
 use Rattle.octets.specs.Xor.{◌⊕◌, xors}
-use Rattle.octets.proofs.Parts.{tab_self}
 use Rattle.octets.proofs.Rules.{tab_ext, octet-tab}
 use Rattle.cipher.specs.State.{at, cell, state}
 use Rattle.cipher.proofs.Cells.{cell_at}
@@ -40,11 +38,6 @@ pub columns : (f : ℕ → ℕ → ℕ) {p q u v : ℕ} → Column p (λ r. f r 
 unfolding state_from
 columns f {p} {q} {u} {v} first second third fourth =
     tab_ext 16 (λ i h. (by_row (λ c. Column (octet (p ∷ q ∷ u ∷ v ∷ []) c) (λ r. f r c)) first second third fourth (i / 4) (omega arith)).row (i % 4) (omega arith))
-
--- a block is the state of its octets
-pub state_self : (block : List ℕ) → length block ≡ 16 → state (at block) ≡ block
-state_self block long =
-    tab_ext 16 (λ i h. ap (octet block) (sym (cell_at i))) ∙ ap (λ (n : ℕ). tab n (octet block)) (sym long) ∙ tab_self block
 
 -- the word at a place, as a column of the block at another
 pub placed : (s : List ℕ) (place c : ℕ) {x p : ℕ} → p ≡ place + 4 * c → Column x (λ i. octet s (p + i)) → Column x (λ r. octet s (place + (r + 4 * c)))

@@ -10,7 +10,7 @@ ghost use Rattle.columns.specs.Columns.{Column, state_from};
 pub fn joined(a: u8, b: u8, c: u8, d: u8) -> u32
     ensures { Column result (λ i. octet (a ∷ b ∷ c ∷ d ∷ []) i) }
 {
-    a as u32 * 0x1000000 + b as u32 * 0x10000 + c as u32 * 0x100 + d as u32
+    u32::from_be_bytes([a, b, c, d])
 }
 
 // The word at a place of s, all of it inside.
@@ -45,34 +45,19 @@ pub fn sum(v: [u32; 4], w: [u32; 4]) -> [u32; 4]
 pub fn words_of(block: [u8; 16]) -> [u32; 4]
     ensures { state_from result ≡ block }
 {
-    [
-        joined(block[0], block[1], block[2], block[3]),
-        joined(block[4], block[5], block[6], block[7]),
-        joined(block[8], block[9], block[10], block[11]),
-        joined(block[12], block[13], block[14], block[15]),
-    ]
+    words_at(&block, 0)
 }
 
 // The octets of a block's four words.
 pub fn octets_of(v: [u32; 4]) -> [u8; 16]
     ensures { result ≡ state_from v }
 {
+    let a = v[0].to_be_bytes();
+    let b = v[1].to_be_bytes();
+    let c = v[2].to_be_bytes();
+    let d = v[3].to_be_bytes();
     [
-        (v[0] / 0x1000000 % 256) as u8,
-        (v[0] / 0x10000 % 256) as u8,
-        (v[0] / 0x100 % 256) as u8,
-        (v[0] % 256) as u8,
-        (v[1] / 0x1000000 % 256) as u8,
-        (v[1] / 0x10000 % 256) as u8,
-        (v[1] / 0x100 % 256) as u8,
-        (v[1] % 256) as u8,
-        (v[2] / 0x1000000 % 256) as u8,
-        (v[2] / 0x10000 % 256) as u8,
-        (v[2] / 0x100 % 256) as u8,
-        (v[2] % 256) as u8,
-        (v[3] / 0x1000000 % 256) as u8,
-        (v[3] / 0x10000 % 256) as u8,
-        (v[3] / 0x100 % 256) as u8,
-        (v[3] % 256) as u8,
+        a[0], a[1], a[2], a[3], b[0], b[1], b[2], b[3], c[0], c[1], c[2], c[3], d[0], d[1], d[2],
+        d[3],
     ]
 }

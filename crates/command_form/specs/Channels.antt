@@ -2,14 +2,12 @@
 -- spacecraft, virtual channel and, of kind 2, MAP, each in as many bits as the kind has for it; they are the last bits of the four octets,
 -- and those before them are 0.
 -- Assumes nothing.
-use Rattle.std.specs.Prelude.{ℕ, ◌+◌, ◌-◌, ◌*◌, ◌/◌, ◌%◌, Bool, false, ◌&&◌, List, eqb, length}
+use Rattle.std.specs.Prelude.{ℕ, ◌+◌, ◌-◌, ◌*◌, ◌/◌, ◌%◌, Bool, false, ◌&&◌, List, eqb, length, Option, Some, None}
 use Rattle.octets.specs.Lists.{all}
 use Rattle.octets.specs.Numbers.{number_at}
 use Rattle.kinds.specs.Kinds.{named}
 use Rattle.kinds.specs.declared.kinds.Kind as code
 use Rattle.kinds.specs.declared.kinds.Kind.TheVariants as kind
-use Rattle.kinds.specs.declared.kinds.Named.{Named}
-use Rattle.kinds.specs.declared.kinds.Named.TheVariants as naming
 use Rattle.bodies.specs.Body.{kind_in, spacecraft_of, map_of}
 use Rattle.association.specs.Search.{serves_channel}
 use Rattle.command_form.specs.Form.{spi_length, channel_length}
@@ -29,11 +27,11 @@ channel_in kind.Tm name = name % 8
 channel_in kind.Aos name = name % 64
 
 -- whether a body serves the channel that a name is of, and the whole name is that of this channel
-abbrev pub names_one : ℕ → Named → List ℕ → ℕ → Bool
-names_one version (naming.Kind k) body name =
+abbrev pub names_one : ℕ → Option code.Kind → List ℕ → ℕ → Bool
+names_one version (Some k) body name =
     serves_channel version body (channel_in k name)
     && eqb name (channel_name k (spacecraft_of body) (channel_in k name) (map_of body))
-names_one version naming.Nothing body name = false
+names_one version None body name = false
 
 -- the channels behind the SPI, and whether each of them is the body's
 abbrev pub channel_count : List ℕ → ℕ

@@ -1,5 +1,5 @@
 // A channel that a start names, in four octets.
-ghost use Rattle.std.specs.Prelude.{◌≡◌};
+ghost use Rattle.std.specs.Prelude.{◌≡◌, Some};
 ghost use Rattle.kinds.specs.Kinds.{named};
 ghost use Rattle.bodies.specs.Body.{body_in, kind_in};
 ghost use Rattle.command_form.specs.Channels.{channel_name, channel_in, names_one, channel_count, channels_right};
@@ -7,7 +7,7 @@ ghost use Rattle.command_form.specs.Channels.{channel_name, channel_in, names_on
 use crate::form::{CHANNEL, SPI};
 use association::serves_channel;
 use bodies::{kind_in, map_of, spacecraft_of};
-use kinds::{Kind, Named, kind_of};
+use kinds::{Kind, kind_of};
 use octets::four_at;
 
 // Spacecraft, virtual channel and MAP, each in as many bits as the kind has for it; before those of AOS frames their version bits, 01.
@@ -36,7 +36,7 @@ fn channel_in(kind: Kind, name: u32) -> u8
 
 // Of a body of a kind.
 fn kind_names(image: &[u8], kind: Kind, version: u8, at: u16, name: u32) -> bool
-    ensures { result ≡ names_one version (Named.Kind kind) (body_in image.now version at) name }
+    ensures { result ≡ names_one version (Some kind) (body_in image.now version at) name }
 {
     let channel = channel_in(kind, name);
     let spacecraft = spacecraft_of(image, version, at);
@@ -48,8 +48,8 @@ fn names_one(image: &[u8], version: u8, at: u16, name: u32) -> bool
     ensures { result ≡ names_one version (named (kind_in (body_in image.now version at))) (body_in image.now version at) name }
 {
     match kind_of(kind_in(image, version, at)) {
-        Named::Kind(kind) => kind_names(image, kind, version, at, name),
-        Named::Nothing => false,
+        Some(kind) => kind_names(image, kind, version, at, name),
+        None => false,
     }
 }
 
@@ -66,12 +66,9 @@ fn channel_count(value: &[u8]) -> usize
 pub fn channels_right(image: &[u8], version: u8, at: u16, value: &[u8]) -> bool
     ensures { result ≡ channels_right version (body_in image.now version at) value.now }
 {
-    let count = channel_count(value);
     let mut ok = true;
-    let mut i: usize = 0;
-    while i < count {
+    for i in 0..channel_count(value) {
         ok = ok & names_one(image, version, at, four_at(value, SPI + CHANNEL * i));
-        i += 1;
     }
     ok
 }

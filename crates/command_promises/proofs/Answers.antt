@@ -9,6 +9,7 @@ use native.Mathlib.Omega.{arith}
 use borrow.Author.Tests.{eqb-true, eq-eqb, le-leb, ltb-true, ltb-false, not-true, not-false}
 use lib.Dec.{leb, ltb}
 use lib.ListN.{length, length-drop}
+use Rattle.std.specs.Prelude.{Option, Some, None}
 use Rattle.octets.specs.Lists.{Octets}
 use Rattle.octets.specs.Numbers.{number_at}
 use Rattle.octets.proofs.Alls.{and_right}
@@ -18,15 +19,11 @@ use Rattle.image.proofs.ValidImages.{valid, spi_once}
 use Rattle.association.specs.Association.{index_of}
 use Rattle.numbers.specs.Numbers.{agrees}
 use Rattle.association.specs.Search.{with_spi}
-use Rattle.association.specs.declared.search.Found.{Found}
-use Rattle.association.specs.declared.search.Found.TheVariants as found
 use Rattle.judging.specs.Answers.{first}
-use Rattle.judging.specs.declared.answers.Answer.TheVariants as answer
+use Rattle.judging.specs.declared.answers.Refusal.TheVariants as answer
 use Rattle.link.proofs.Leaving.{left-answer}
 use Rattle.command_form.specs.Form.{front_length, tag_of, value_of, spi_named, measured}
 use Rattle.procedures.specs.Procedures.{procedure_is, procedure_behind, procedures, with_tag, called}
-use Rattle.procedures.specs.declared.procedure.Called.{Called}
-use Rattle.procedures.specs.declared.procedure.Called.TheVariants as calls
 use Rattle.procedures.specs.declared.procedure.Procedure as code
 use Rattle.procedures.specs.declared.procedure.Procedure.TheVariants as procedure
 use Rattle.procedures.proofs.Calling.{called_so, called_parts, called-measured, called-sized, called-long}
@@ -63,7 +60,7 @@ module _ (command : List ℕ) where
       ap₂_and : {a b : Bool} → a ≡ true → b ≡ true → (a && b) ≡ true
       ap₂_and p q = rw (p, q)
 
-  formed : (p : code.Procedure) → called command ≡ calls.Procedure p → FormRules command
+  formed : (p : code.Procedure) → called command ≡ Some p → FormRules command
   formed p c =
       let long = called-long command p c in
       let counts = eqb-true (number_at 1 2 command) size (and_right (leb front_length (length command)) _ (called-measured command p c)) in
@@ -73,19 +70,19 @@ module _ (command : List ℕ) where
       }
 
   -- a command of that form calls one
-  calls_some : FormRules command → called command ≡ calls.Nothing → ⊥
+  calls_some : FormRules command → called command ≡ None → ⊥
   calls_some f none = by-tag (with_tag (tag_of command) procedures) refl
     where
       long : front_length ≤ length command
       long = omega (arith, f.field)
 
-      by-tag : (x : Called) → with_tag (tag_of command) procedures ≡ x → ⊥
-      by-tag (calls.Procedure p) e =
+      by-tag : (x : Option code.Procedure) → with_tag (tag_of command) procedures ≡ x → ⊥
+      by-tag (Some p) e =
           let sized = (row_fits (tag_of command) p e).sizes size (rw (whole long) at f.size) in
           let so = called_so command p e (rw (field-measured f, sized)) in
           let z : ◌≡◌ {A = ℕ} 0 1 = cc in
           omega arith
-      by-tag calls.Nothing e = no_size (tag_of command) (length command) e f.size
+      by-tag None e = no_size (tag_of command) (length command) e f.size
 
 -- ---- 14: the entry
 
@@ -135,7 +132,7 @@ behind image numbers desk command output =
     (rule answer.NoRoom ((row_in command).reply image command ≤ length output) no_more))))
 
 module _ (image numbers : List ℕ) (desk : ℕ) (command output : List ℕ) (octets : Octets image) (rules : ImageRules image) (p : code.Procedure)
-    (c : called command ≡ calls.Procedure p) where
+    (c : called command ≡ Some p) where
   abbrev value : List ℕ
   value = value_of command
 
@@ -218,18 +215,18 @@ module _ (image numbers : List ℕ) (desk : ℕ) (command output : List ℕ) (oc
   abbrev Entry : Type 0
   Entry = (e : ℕ) × About image desk command e
 
-  abbrev after-form : Found → ℕ
+  abbrev after-form : Option ℕ → ℕ
   after-form x = first ((14, is_nothing x) ∷ tests_at (procedure_is p) image numbers (index_of x) value room)
 
-  by-found : (procedure_is p).names ≡ true → (x : Found) → with_spi image desk (spi_named value) ≡ x
+  by-found : (procedure_is p).names ≡ true → (x : Option ℕ) → with_spi image desk (spi_named value) ≡ x
       → Numbered (rule answer.UnknownSpi Entry (behind image numbers desk command output)) (after-form x)
-  by-found n (found.At d) e =
+  by-found n (Some d) e =
       let f = spi-found image desk (spi_named value) d e in
       let has = named-kept image desk (spi_named value) d f.1 in
       let names : Names image desk command d = record { entry = f.0; spi = has.0 ∙ spi-shifted; seen = has.1 } in
       next-rule answer.UnknownSpi false _ Entry _ (λ t k. differ false t refl) (λ t. (d, λ so. names))
       (rest d (λ named. rules.body d f.0) (λ so. names) (λ k m. inl (once k d (m (sym row.named ∙ n)) names)))
-  by-found n found.Nothing e =
+  by-found n None e =
       step answer.UnknownSpi true _ Entry _ (λ t. missing) (λ t. absurd (differ true refl t))
     where
       missing : Entry → ⊥
@@ -244,7 +241,7 @@ module _ (image numbers : List ℕ) (desk : ℕ) (command output : List ℕ) (oc
     where
       by_names : (t : Bool) → (procedure_is p).names ≡ t
           → Numbered (rule answer.UnknownSpi Entry (behind image numbers desk command output))
-          (after-form (cond t (with_spi image desk (spi_named value)) (found.At 0)))
+          (after-form (cond t (with_spi image desk (spi_named value)) (Some 0)))
       by_names true n = by-found n (with_spi image desk (spi_named value)) refl
       by_names false n =
           let about : About image desk command 0 = λ so. absurd (differ (procedure_is p).names (row.named ∙ so) n) in
@@ -270,7 +267,7 @@ module _ (image numbers : List ℕ) (desk : ℕ) (command output : List ℕ) (oc
             (by-called rules (called command) refl)),
       ))
     where
-      by-called : ImageRules image → (x : Called) → called command ≡ x
+      by-called : ImageRules image → (x : Option code.Procedure) → called command ≡ x
           → Numbered
           (rule answer.BadCommand (FormRules command)
           (rule answer.UnknownSpi ((e : ℕ) × About image desk command e) (behind image numbers desk command output)))
@@ -278,10 +275,10 @@ module _ (image numbers : List ℕ) (desk : ℕ) (command output : List ℕ) (oc
           ((13, calls_none x)
           ∷ (14, is_nothing (entry_named (procedure_behind x) image desk (value_of command)))
           ∷ tests_at (procedure_behind x) image numbers (index_of (entry_named (procedure_behind x) image desk (value_of command))) (value_of command) (length output)))
-      by-called rules (calls.Procedure p) c =
+      by-called rules (Some p) c =
           next-rule answer.BadCommand false _ (FormRules command) _ (λ t k. differ false t refl) (λ t. formed command p c)
           (entry-rules image numbers desk command output octets rules p c)
-      by-called rules calls.Nothing c =
+      by-called rules None c =
           step answer.BadCommand true _ (FormRules command) _ (λ t f. calls_some command f c) (λ t. absurd (differ true refl t))
 
 pub command_answers : CommandAnswers

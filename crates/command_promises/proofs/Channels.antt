@@ -7,11 +7,11 @@ use mathlib.Core.List.{List}
 use native.Mathlib.Omega.{arith}
 use borrow.Author.Tests.{eqb-true, eq-eqb}
 use lib.Dec.{eqb}
+use Rattle.std.specs.Prelude.{Some}
 use Rattle.octets.proofs.Alls.{and_left, and_right}
 use Rattle.kinds.specs.Kinds.{named}
 use Rattle.kinds.specs.declared.kinds.Kind as code
 use Rattle.kinds.specs.declared.kinds.Kind.TheVariants as kind
-use Rattle.kinds.specs.declared.kinds.Named.TheVariants as naming
 use Rattle.bodies.specs.Body.{spacecraft_of, map_of}
 use Rattle.image.specs.Image.{version_of, body_of}
 use Rattle.association.specs.Search.{serves_channel}
@@ -31,7 +31,7 @@ module _ (image : List ℕ) (e : ℕ) (b : BodyRules image e) where
 
   -- the test, by the kind
   abbrev tests : code.Kind → ℕ → Bool
-  tests k name = names_one (version_of image) (naming.Kind k) body name
+  tests k name = names_one (version_of image) (Some k) body name
 
   served : (k : code.Kind) (name : ℕ) → tests k name ≡ true → ServesChannel image e (channel_in k name)
   served k name t = channel-served image e (channel_in k name) (and_left (serves_channel (version_of image) body (channel_in k name)) _ t)

@@ -12,6 +12,7 @@ use borrow.Author.Tests.{eq-eqb, ne_eqb}
 use lib.Dec.{eqb}
 use lib.ListN.{length, set, take}
 use lib.Seq.{take-nil, get_or-set_same, get_or-set_other}
+use Rattle.std.specs.Prelude.{Some}
 use Rattle.octets.specs.Lists.{octet, Octets}
 use Rattle.octets.specs.Numbers.{number_at}
 use Rattle.image.specs.Image.{valid_image, mark_in}
@@ -26,7 +27,6 @@ use Rattle.link.proofs.Leaving.{left-done, left-refused, cut-done, cut-refused}
 use Rattle.command_form.specs.Form.{value_of, spi_named}
 use Rattle.procedures.specs.Procedures.{key_state_in, procedure_is}
 use Rattle.procedures.specs.declared.procedure.Procedure as code
-use Rattle.procedures.specs.declared.procedure.Called.TheVariants as calls
 use Rattle.procedures.specs.Procedures.{called}
 use Rattle.procedures.proofs.Calling.{called-tag}
 use Rattle.commands.specs.Commanding.{command_reply, commanded, commanded_cut}
@@ -97,7 +97,7 @@ module _ (e : ℕ) (x : State) (inv : Inv x) (below : e < count_in x.image) (des
     good = inv.good passed
 
     -- it is no set number for this entry, but for this entry: so it is no set number
-    other_tag : ours ≡ false → (p : code.Procedure) → called c ≡ calls.Procedure p → number_at 3 2 c ≡ spi_at s e → (procedure_is p).tag ≢ 0x1A
+    other_tag : ours ≡ false → (p : code.Procedure) → called c ≡ Some p → number_at 3 2 c ≡ spi_at s e → (procedure_is p).tag ≢ 0x1A
     other_tag not_ours p is own tag =
         let here : octet c 0 ≡ 0x1A = called-tag c p is ∙ tag in
         let yes-ours : ours ≡ true = rw (eq-eqb (octet c 0) 0x1A here, eq-eqb (number_at 3 2 c) (spi_at s e) own) refl in

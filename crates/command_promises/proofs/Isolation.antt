@@ -11,6 +11,7 @@ use native.Mathlib.Omega.{arith}
 use borrow.Author.Tests.{ltb-true}
 use lib.Dec.{eqb, ltb}
 use lib.ListN.{length}
+use Rattle.std.specs.Prelude.{Option, Some, None}
 use Rattle.octets.specs.Lists.{octet}
 use Rattle.bodies.specs.Body.{key_id_of, mark_of}
 use Rattle.bodies.specs.Layout.{layout_of}
@@ -21,8 +22,6 @@ use Rattle.image.proofs.ValidImages.{valid}
 use Rattle.numbers.specs.Numbers.{agrees}
 use Rattle.numbers.specs.Stores.{stores_for}
 use Rattle.association.specs.Search.{with_spi}
-use Rattle.association.specs.declared.search.Found.{Found}
-use Rattle.association.specs.declared.search.Found.TheVariants as found
 use Rattle.judging.specs.Answers.{first}
 use Rattle.judging.specs.Replies.{Reply}
 use Rattle.judging.proofs.First.{stops}
@@ -33,8 +32,6 @@ use Rattle.command_form.specs.Form as asked
 use Rattle.command_form.specs.Form.{tag_of, value_of, spi_named, key_asked}
 use Rattle.named_keys.specs.NamedKeys.{has_key, key_there, key_active, unserved, freed}
 use Rattle.procedures.specs.Procedures.{procedure_is, called}
-use Rattle.procedures.specs.declared.procedure.Called.{Called}
-use Rattle.procedures.specs.declared.procedure.Called.TheVariants as calls
 use Rattle.procedures.specs.declared.procedure.Procedure as code
 use Rattle.procedures.specs.declared.procedure.Procedure.TheVariants as procedure
 use Rattle.procedures.proofs.Calling.{called_parts, called-tag}
@@ -215,7 +212,7 @@ module _ (s t : List ℕ) (desk : ℕ) (c : List ℕ) (same : SameKeys s t desk 
     abbrev Unnamed : code.Procedure → Type 0
     Unnamed p = Alike (reply_under p s l 0 (value_of c) room) (reply_under p t r 0 (value_of c) room)
 
-    unnaming : (p : code.Procedure) → called c ≡ calls.Procedure p → (procedure_is p).names ≡ false → Unnamed p
+    unnaming : (p : code.Procedure) → called c ≡ Some p → (procedure_is p).names ≡ false → Unnamed p
     unnaming procedure.Start is e = let z : ◌≡◌ {A = ℕ} 0 1 = cc in absurd (omega arith)
     unnaming procedure.Stop is e = let z : ◌≡◌ {A = ℕ} 0 1 = cc in absurd (omega arith)
     unnaming procedure.Rekey is e = let z : ◌≡◌ {A = ℕ} 0 1 = cc in absurd (omega arith)
@@ -271,14 +268,14 @@ module _ (image numbers : List ℕ) (desk : ℕ) (c : List ℕ) (room : ℕ) (g 
   no_seat : wrong_desk desk c ≡ true → q.answer ≡ 19
   no_seat e = refused-by 19 (omega arith) (by_19 image numbers desk c ok agree e)
 
-  calls_none_lem : wrong_desk desk c ≡ false → called c ≡ calls.Nothing → q.answer ≡ 13
+  calls_none_lem : wrong_desk desk c ≡ false → called c ≡ None → q.answer ≡ 13
   calls_none_lem seated e = refused-by 13 (omega arith) (by_13 image numbers desk c ok agree seated e)
 
-  module _ (seated : wrong_desk desk c ≡ false) (p : code.Procedure) (is : called c ≡ calls.Procedure p) where
-    pub reply-at : (e : ℕ) → entry_named (procedure_is p) image desk (value_of c) ≡ found.At e → q ≡ reply_under p image numbers e (value_of c) room
+  module _ (seated : wrong_desk desk c ≡ false) (p : code.Procedure) (is : called c ≡ Some p) where
+    pub reply-at : (e : ℕ) → entry_named (procedure_is p) image desk (value_of c) ≡ Some e → q ≡ reply_under p image numbers e (value_of c) room
     reply-at e f = sym (command_under image numbers desk c room p e (addresses image numbers desk c ok agree seated p is e f))
 
-    pub named-at : (procedure_is p).names ≡ true → (i : ℕ) → Names image desk c i → entry_named (procedure_is p) image desk (value_of c) ≡ found.At i
+    pub named-at : (procedure_is p).names ≡ true → (i : ℕ) → Names image desk c i → entry_named (procedure_is p) image desk (value_of c) ≡ Some i
     unfolding entry_named
     named-at names i n =
         rw names
@@ -289,14 +286,14 @@ module _ (image numbers : List ℕ) (desk : ℕ) (c : List ℕ) (room : ℕ) (g 
     unfolding entry_named
     named_none names no_one = refused-by 14 (omega arith) (by_14 image numbers desk c ok agree seated p is (rw names (by_answer (with_spi image desk (spi_named (value_of c))) refl)))
       where
-        by_answer : (x : Found) → with_spi image desk (spi_named (value_of c)) ≡ x → x ≡ found.Nothing
-        by_answer (found.At i) e =
+        by_answer : (x : Option ℕ) → with_spi image desk (spi_named (value_of c)) ≡ x → x ≡ None
+        by_answer (Some i) e =
             let f = spi-found image desk (spi_named (value_of c)) i e in
             let has = named-kept image desk (spi_named (value_of c)) i f.1 in
             absurd (no_one i (record { entry = f.0; spi = has.0 ∙ shifted c 0 2; seen = has.1 }))
-        by_answer found.Nothing e = refl
+        by_answer None e = refl
 
-    unnamed : (procedure_is p).names ≡ false → entry_named (procedure_is p) image desk (value_of c) ≡ found.At 0
+    unnamed : (procedure_is p).names ≡ false → entry_named (procedure_is p) image desk (value_of c) ≡ Some 0
     unfolding entry_named
     unnamed names = rw names
 
@@ -335,7 +332,7 @@ module _ (s l t r : List ℕ) (desk : ℕ) (c : List ℕ) (room : ℕ) (here : S
             };
       }
 
-  by_names : wrong_desk desk c ≡ false → (p : code.Procedure) → called c ≡ calls.Procedure p → (b : Bool) → (procedure_is p).names ≡ b → SameNamed s l t r desk c → SameKeys s t desk c
+  by_names : wrong_desk desk c ≡ false → (p : code.Procedure) → called c ≡ Some p → (b : Bool) → (procedure_is p).names ≡ b → SameNamed s l t r desk c → SameKeys s t desk c
       → Alike x y
   by_names seated p is true n (both i j a b version body number) keys =
       rw (
@@ -358,9 +355,9 @@ module _ (s l t r : List ℕ) (desk : ℕ) (c : List ℕ) (room : ℕ) (here : S
   alike : SameNamed s l t r desk c → SameKeys s t desk c → Alike x y
   alike same keys = by-desk (wrong_desk desk c) refl
     where
-      by-called : wrong_desk desk c ≡ false → (k : Called) → called c ≡ k → Alike x y
-      by-called seated (calls.Procedure p) is = by_names seated p is (procedure_is p).names refl same keys
-      by-called seated calls.Nothing is =
+      by-called : wrong_desk desk c ≡ false → (k : Option code.Procedure) → called c ≡ k → Alike x y
+      by-called seated (Some p) is = by_names seated p is (procedure_is p).names refl same keys
+      by-called seated None is =
           both-refused x y 13 (omega arith) (calls_none_lem s l desk c room here seated is) (calls_none_lem t r desk c room there seated is)
 
       by-desk : (b : Bool) → wrong_desk desk c ≡ b → Alike x y

@@ -7,6 +7,7 @@ use mathlib.Core.List.{List, [], ◌∷◌, ◌++◌}
 use native.Mathlib.Omega.{arith}
 use lib.ListN.{length, set, take}
 use lib.Seq.{take-length, take-nil, get_or-drop, set-get_or}
+use Rattle.std.specs.Prelude.{Some}
 use Rattle.octets.specs.Lists.{octet, Octets}
 use Rattle.octets.specs.Numbers.{bytes}
 use Rattle.marks.specs.Gray.{gray}
@@ -17,7 +18,6 @@ use Rattle.image.specs.Image.{version_of, body_at, mark_in, part_at, key_with, v
 use Rattle.image.proofs.ValidImages.{valid}
 use Rattle.numbers.specs.Stores.{stores_for, after_stores}
 use Rattle.association.specs.Search.{with_spi}
-use Rattle.association.specs.declared.search.Found.TheVariants as found
 use Rattle.numbers.proofs.AfterStores.{Raised, raised, after-all}
 use Rattle.numbers.proofs.LoadedNumbers.{agreed}
 use Rattle.judging.specs.Replies.{Reply}
@@ -25,8 +25,7 @@ use Rattle.link.specs.Calls as link
 use Rattle.link.proofs.Leaving.{left-answer, left-done, cut-done}
 use Rattle.command_form.specs.Form as asked
 use Rattle.command_form.specs.Form.{front_length, value_of, spi_named, number_asked}
-use Rattle.procedures.specs.Procedures.{Procedure, key_state_in, procedure_is, procedures, with_tag, set_number}
-use Rattle.procedures.specs.declared.procedure.Called.TheVariants as calls
+use Rattle.procedures.specs.Procedures.{key_state_in, procedure_is, procedures, with_tag, set_number}
 use Rattle.procedures.specs.declared.procedure.Procedure as code
 use Rattle.procedures.specs.declared.procedure.Procedure.TheVariants as procedure
 use Rattle.procedures.proofs.Calling.{called_parts}
@@ -87,11 +86,11 @@ module _ (image numbers : List ℕ) (desk : ℕ) (c output : List ℕ) (z : (com
       }
 
   -- the procedure by its tag
-  procedure-is : (r : code.Procedure) → with_tag (procedure_is r).tag procedures ≡ calls.Procedure r → octet c 0 ≡ (procedure_is r).tag
+  procedure-is : (r : code.Procedure) → with_tag (procedure_is r).tag procedures ≡ Some r → octet c 0 ≡ (procedure_is r).tag
       → is-done.procedure ≡ r
   procedure-is r w t =
       let a = (called_parts c is-done.procedure is-done.calls).0 in
-      let b : calls.Procedure is-done.procedure ≡ calls.Procedure r =
+      let b : Some is-done.procedure ≡ Some r =
       sym a ∙ ap (λ (n : ℕ). with_tag n procedures) t ∙ w in
       cc
 
@@ -158,11 +157,11 @@ module _ (image numbers : List ℕ) (desk : ℕ) (c output : List ℕ) (z : (com
         entry-is : is-done.entry ≡ e
         unfolding entry_named
         entry-is =
-            let named : with_spi image desk (spi_named (value_of c)) ≡ found.At is-done.entry = rw (is, n) at is-done.named in
+            let named : with_spi image desk (spi_named (value_of c)) ≡ Some is-done.entry = rw (is, n) at is-done.named in
             let here = spi-at image (valid image passed) desk (spi_named (value_of c)) e names.entry
             (named_tested image desk (spi_named (value_of c)) e spi-is names.seen)
             in
-            let same : found.At is-done.entry ≡ found.At e = sym named ∙ here in
+            let same : Some is-done.entry ≡ Some e = sym named ∙ here in
             cc
 
         pub settled : q ≡ reply_at 0 (procedure_is r) image numbers e (value_of c)
@@ -203,7 +202,7 @@ module _ (image numbers : List ℕ) (desk : ℕ) (c output : List ℕ) (z : (com
       value-octet i = get_or-drop front_length c i 0
 
       -- one store of the state
-      moved : (r : code.Procedure) → with_tag (procedure_is r).tag procedures ≡ calls.Procedure r → (procedure_is r).names ≡ true → (state : ℕ)
+      moved : (r : code.Procedure) → with_tag (procedure_is r).tag procedures ≡ Some r → (procedure_is r).names ≡ true → (state : ℕ)
           → stores_of (procedure_is r) image numbers e (value_of c) ≡ writes (body_at image e + 3) state ∷ []
           → number_for (procedure_is r) numbers e (value_of c) ≡ last_at numbers e
           → (procedure_is r).reply image e (last_at numbers e) (value_of c) ≡ []
@@ -227,7 +226,7 @@ module _ (image numbers : List ℕ) (desk : ℕ) (c output : List ℕ) (z : (com
           by_part false = refl
 
       -- set number
-      module _ (t : octet c 0 ≡ 0x1A) (w : with_tag 0x1A procedures ≡ calls.Procedure procedure.SetNumber) where
+      module _ (t : octet c 0 ≡ 0x1A) (w : with_tag 0x1A procedures ≡ Some procedure.SetNumber) where
         abbrev n : ℕ
         n = number_asked (value_of c)
 
@@ -296,7 +295,7 @@ module _ (image numbers : List ℕ) (desk : ℕ) (c output : List ℕ) (z : (com
 -- ---- a question that names no association
 
 told : (image numbers : List ℕ) (desk : ℕ) (c output : List ℕ) (z : (commanded image numbers desk c output).answer ≡ 0) (r : code.Procedure)
-    → with_tag (procedure_is r).tag procedures ≡ calls.Procedure r → octet c 0 ≡ (procedure_is r).tag → (reply : List ℕ)
+    → with_tag (procedure_is r).tag procedures ≡ Some r → octet c 0 ≡ (procedure_is r).tag → (reply : List ℕ)
     → ((e : ℕ) → stores_of (procedure_is r) image numbers e (value_of c) ≡ [])
     → ((e : ℕ) → number_for (procedure_is r) numbers e (value_of c) ≡ last_at numbers e)
     → ((e : ℕ) → (procedure_is r).reply image e (last_at numbers e) (value_of c) ≡ reply)
@@ -316,7 +315,7 @@ module _ (image numbers : List ℕ) (desk : ℕ) (c output : List ℕ) (k : ℕ)
   abbrev id : ℕ
   id = asked.key_named (value_of c)
 
-  turned : (r : code.Procedure) → with_tag (procedure_is r).tag procedures ≡ calls.Procedure r → octet c 0 ≡ (procedure_is r).tag → (state : ℕ)
+  turned : (r : code.Procedure) → with_tag (procedure_is r).tag procedures ≡ Some r → octet c 0 ≡ (procedure_is r).tag → (state : ℕ)
       → ((e : ℕ) → stores_of (procedure_is r) image numbers e (value_of c) ≡ key_state_in image id state ∷ [])
       → ((e : ℕ) → number_for (procedure_is r) numbers e (value_of c) ≡ last_at numbers e)
       → ((e l : ℕ) → (procedure_is r).reply image e l (value_of c) ≡ [])

@@ -10,6 +10,7 @@ use native.Mathlib.Omega.{arith}
 use lib.Dec.{eqb}
 use lib.ListN.{length, set, drop, length-set}
 use lib.Seq.{take_at, set-set, set-get_or, get_or-drop, get_or-set_same, get_or-set_other}
+use Rattle.std.specs.Prelude.{Err}
 use Rattle.octets.specs.Lists.{octet, Octets}
 use Rattle.octets.specs.Numbers.{number, number_at, bytes}
 use Rattle.octets.proofs.Numbers.{number_at-same}
@@ -22,8 +23,8 @@ use Rattle.image.proofs.KeptParts.{kept-version, kept-count, kept-place, kept-sp
 use Rattle.image.proofs.ValidImages.{valid, spi_once}
 use Rattle.judging.specs.Answers.{Reported, reported}
 use Rattle.judging.specs.Said.{Said}
-use Rattle.judging.specs.declared.answers.Answer.{Answer}
-use Rattle.judging.specs.declared.answers.Answer.TheVariants as answer
+use Rattle.judging.specs.declared.answers.Refusal.{Refusal}
+use Rattle.judging.specs.declared.answers.Refusal.TheVariants as answer
 use Rattle.link.specs.Calls.{Left, handed, secured, checked}
 use Rattle.commands.specs.Commanding.{commanded}
 use Rattle.commands.proofs.KeptFields.{FieldsOnly, SameRest, fields_within, kept-rest}
@@ -367,7 +368,7 @@ module _ (image numbers : List ℕ) (e : ℕ) (octets : Octets image) (thirty_tw
 -- ---- what a command that is done says of what it was given
 
 -- a rule that does not give the answer is kept
-kept-first : (refusal : Answer) (kept : Type 0) (behind : Rules) (r : Reported) → r.number ≡ 0 → 0 < (reported refusal).number
+kept-first : (refusal : Refusal) (kept : Type 0) (behind : Rules) (r : Reported) → r.number ≡ 0 → 0 < (reported (Err refusal)).number
     → Gives (rule refusal kept behind) r → kept × Gives behind r
 unfolding Gives
 kept-first refusal kept behind r z some (inl x) = absurd (omega (arith, ap (λ (v : Reported). v.number) x.1))

@@ -9,6 +9,7 @@ use native.Mathlib.Omega.{arith}
 use borrow.Author.Tests.{eqb-true, eqb-false, eq-eqb, ne_eqb, leb-true, le-leb, not-true}
 use lib.Dec.{eqb, leb}
 use lib.ListN.{length, length-drop}
+use Rattle.std.specs.Prelude.{Option, Some, None}
 use Rattle.octets.specs.Numbers.{number_at, bytes}
 use Rattle.octets.proofs.Alls.{and_left, and_right, all-at, all_every}
 use Rattle.kinds.specs.Kinds.{named}
@@ -19,8 +20,6 @@ use Rattle.numbers.proofs.Agreement.{accepted}
 use Rattle.command_form.specs.Channels.{names_one, channel_count, channel_named, channels_right}
 use Rattle.command_form.specs.Form.{front_length, value_of, key_asked, key_named, first_named, last_named, number_behind_key, window_asked, number_asked}
 use Rattle.procedures.specs.Procedures.{Procedure, procedure_is, procedures, with_tag, most_rise}
-use Rattle.procedures.specs.declared.procedure.Called.{Called}
-use Rattle.procedures.specs.declared.procedure.Called.TheVariants as calls
 use Rattle.procedures.specs.declared.procedure.Procedure as code
 use Rattle.procedures.specs.declared.procedure.Procedure.TheVariants as procedure
 use Rattle.promises.specs.Images.{kind_at, key_count_in, last_at, BodyRules}
@@ -37,22 +36,22 @@ use Rattle.command_promises.proofs.Shifted.{shifted}
 
 -- ---- a tag without a procedure has no row
 
-abbrev row_for : Called → Row
-row_for (calls.Procedure procedure.Start) = start_row
-row_for (calls.Procedure procedure.Stop) = stop_row
-row_for (calls.Procedure procedure.Rekey) = rekey_row
-row_for (calls.Procedure procedure.Expire) = expire_row
-row_for (calls.Procedure procedure.SetNumber) = set_number_row
-row_for (calls.Procedure procedure.SetWindow) = set_window_row
-row_for (calls.Procedure procedure.Status) = status_row
-row_for (calls.Procedure procedure.ReadNumber) = read_number_row
-row_for (calls.Procedure procedure.Ping) = ping_row
-row_for (calls.Procedure procedure.Activation) = activation_row
-row_for (calls.Procedure procedure.Deactivation) = deactivation_row
-row_for (calls.Procedure procedure.Inventory) = inventory_row
-row_for calls.Nothing = no_row
+abbrev row_for : Option code.Procedure → Row
+row_for (Some procedure.Start) = start_row
+row_for (Some procedure.Stop) = stop_row
+row_for (Some procedure.Rekey) = rekey_row
+row_for (Some procedure.Expire) = expire_row
+row_for (Some procedure.SetNumber) = set_number_row
+row_for (Some procedure.SetWindow) = set_window_row
+row_for (Some procedure.Status) = status_row
+row_for (Some procedure.ReadNumber) = read_number_row
+row_for (Some procedure.Ping) = ping_row
+row_for (Some procedure.Activation) = activation_row
+row_for (Some procedure.Deactivation) = deactivation_row
+row_for (Some procedure.Inventory) = inventory_row
+row_for None = no_row
 
-either : (t : Bool) (x y : Called) (row : Row) → row ≡ row_for y → cond t (row_for x) row ≡ row_for (cond t x y)
+either : (t : Bool) (x y : Option code.Procedure) (row : Row) → row ≡ row_for y → cond t (row_for x) row ≡ row_for (cond t x y)
 either true x y row e = refl
 either false x y row e = e
 
@@ -70,7 +69,7 @@ row_of_lem tag =
     (either (eqb tag 0x31) _ _ _
     (either (eqb tag 0x02) _ _ _
     (either (eqb tag 0x03) _ _ _
-    (either (eqb tag 0x07) _ calls.Nothing _ refl)))))))))))
+    (either (eqb tag 0x07) _ None _ refl)))))))))))
 
 -- ---- a procedure and its row
 
@@ -387,7 +386,7 @@ inventory_fits =
 
 -- ---- each of them
 
-pub fits : (p : code.Procedure) → Fits (procedure_is p) (row_for (calls.Procedure p))
+pub fits : (p : code.Procedure) → Fits (procedure_is p) (row_for (Some p))
 fits procedure.Start = start_fits
 fits procedure.Stop = stop_fits
 fits procedure.Rekey = rekey_fits
@@ -402,9 +401,9 @@ fits procedure.Deactivation = deactivation_fits
 fits procedure.Inventory = inventory_fits
 
 -- of a command that calls one
-pub row_fits : (tag : ℕ) (p : code.Procedure) → with_tag tag procedures ≡ calls.Procedure p → Fits (procedure_is p) (row_of tag)
+pub row_fits : (tag : ℕ) (p : code.Procedure) → with_tag tag procedures ≡ Some p → Fits (procedure_is p) (row_of tag)
 row_fits tag p e = rw (row_of_lem tag, e) (fits p)
 
 -- and of one that calls none
-pub no_size : (tag n : ℕ) → with_tag tag procedures ≡ calls.Nothing → (row_of tag).Size n → ⊥
+pub no_size : (tag n : ℕ) → with_tag tag procedures ≡ None → (row_of tag).Size n → ⊥
 no_size tag n e s = rw (row_of_lem tag, e) at s

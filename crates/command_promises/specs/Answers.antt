@@ -6,7 +6,7 @@
 use Rattle.std.specs.Prelude.{ℕ, ◌+◌, ◌≤◌, true, ◌⊎◌, ◌≡◌, List, length}
 use Rattle.octets.specs.Lists.{octet, Octets}
 use Rattle.octets.specs.Numbers.{number_at}
-use Rattle.judging.specs.declared.answers.Answer.TheVariants as answer
+use Rattle.judging.specs.declared.answers.Refusal.TheVariants as answer
 use Rattle.commands.specs.Commanding.{commanded}
 use Rattle.promises.specs.Answers.{Rules, rule, no_more, report_of, Exactly}
 use Rattle.promises.specs.Images.{state_at, ImageRules, Agreeing}

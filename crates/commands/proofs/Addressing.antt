@@ -3,9 +3,9 @@
 use Prim.Native.Nat.{ℕ}
 use mathlib.Core.Path.{◌≡◌, sym, ap, ◌∙◌}
 use mathlib.Core.List.{List}
-use Rattle.judging.specs.Answers.{first, refusal}
+use Rattle.judging.specs.Answers.{first}
 use Rattle.judging.specs.Verdicts.{Refuses}
-use Rattle.judging.specs.declared.answers.Answer.{Answer}
+use Rattle.judging.specs.declared.answers.Refusal.{Refusal}
 use Rattle.judging.proofs.First.{stops}
 use Rattle.command_form.specs.Form.{value_of}
 use Rattle.procedures.specs.Procedures.{procedure_is}
@@ -17,11 +17,11 @@ use Rattle.commands.specs.Commanding.{tests_at, reply_at, command_reply}
 use Rattle.commands.specs.Steps.{reply_under}
 
 module _ (image last : List ℕ) (desk : ℕ) (command : List ℕ) where
-  pub command-refused : (room : ℕ) (a : Answer) → Refuses a (first (address_tests image last desk command)) → Refuses a (command_reply image last desk command room).answer
+  pub command-refused : (room : ℕ) (a : Refusal) → Refuses a (first (address_tests image last desk command)) → Refuses a (command_reply image last desk command room).answer
   unfolding command_reply
   command-refused room a r =
       let same = stops (address_tests image last desk command) _ r.some in
-      record { answer = r.answer ∙ ap refusal (sym same); some = rw same r.some }
+      record { answer = r.answer ∙ sym same; some = rw same r.some }
 
   pub command_under : (room : ℕ) (p : code.Procedure) (e : ℕ) → Addresses image last desk command p e
       → reply_under p image last e (value_of command) room ≡ command_reply image last desk command room

@@ -9,22 +9,19 @@ use native.Mathlib.Omega.{arith}
 use borrow.Author.Tests.{not-false}
 use lib.ListN.{length, set}
 use lib.Seq.{get_or-drop, set-get_or}
+use Rattle.std.specs.Prelude.{Option, Some, None}
 use Rattle.octets.specs.Lists.{Octets}
 use Rattle.image.specs.Image.{count_of, valid_image}
 use Rattle.image.proofs.ValidImages.{Valid, spi_once}
 use Rattle.association.specs.Association.{index_of}
 use Rattle.numbers.specs.Numbers.{number_of, agrees}
 use Rattle.association.specs.Search.{has_spi, with_spi}
-use Rattle.association.specs.declared.search.Found.{Found}
-use Rattle.association.specs.declared.search.Found.TheVariants as found
 use Rattle.association.proofs.Finding.{First, first-at, first_nothing, has_spi_lem}
 use Rattle.judging.specs.Answers.{first}
 use Rattle.judging.specs.Replies.{Reply}
 use Rattle.judging.proofs.First.{passed}
 use Rattle.command_form.specs.Form.{front_length, value_of, spi_named}
 use Rattle.procedures.specs.Procedures.{key_state_in, procedure_is, procedure_behind, procedure_of, called}
-use Rattle.procedures.specs.declared.procedure.Called.{Called}
-use Rattle.procedures.specs.declared.procedure.Called.TheVariants as calls
 use Rattle.procedures.specs.declared.procedure.Procedure as code
 use Rattle.addressing.specs.Addressing.{wrong_desk, calls_none, entry_named, is_nothing}
 use Rattle.commands.specs.Commanding.{tests_at, reply_at, command_reply}
@@ -34,28 +31,28 @@ use Rattle.commands.proofs.Turning.{Turns}
 
 -- ---- the entry with an SPI, for a desk
 
-pub spi-found : (image : List ℕ) (desk spi i : ℕ) → with_spi image desk spi ≡ found.At i → (i < count_of image) × (has_spi image desk spi i ≡ true)
+pub spi-found : (image : List ℕ) (desk spi i : ℕ) → with_spi image desk spi ≡ Some i → (i < count_of image) × (has_spi image desk spi i ≡ true)
 unfolding with_spi
 spi-found image desk spi i e =
     let f : First 0 (count_of image) (has_spi image desk spi) i = first-at (count_of image) 0 (has_spi image desk spi) i e in
     (omega (arith, f.to), f.passes)
 
-pub spi_missing : (image : List ℕ) (desk spi : ℕ) → with_spi image desk spi ≡ found.Nothing → (i : ℕ) → i < count_of image
+pub spi_missing : (image : List ℕ) (desk spi : ℕ) → with_spi image desk spi ≡ None → (i : ℕ) → i < count_of image
     → has_spi image desk spi i ≡ false
 unfolding with_spi
 spi_missing image desk spi e i h = first_nothing (count_of image) 0 (has_spi image desk spi) e i (omega arith) (omega arith)
 
 -- in a valid image no other entry has that SPI
 pub spi-at : (image : List ℕ) → Valid image → (desk spi e : ℕ) → e < count_of image → has_spi image desk spi e ≡ true
-    → with_spi image desk spi ≡ found.At e
+    → with_spi image desk spi ≡ Some e
 spi-at image v desk spi e below is = by_answer (with_spi image desk spi) refl
   where
-    by_answer : (x : Found) → with_spi image desk spi ≡ x → x ≡ found.At e
-    by_answer (found.At i) q =
+    by_answer : (x : Option ℕ) → with_spi image desk spi ≡ x → x ≡ Some e
+    by_answer (Some i) q =
         let f = spi-found image desk spi i q in
-        ap (λ (k : ℕ). found.At k)
+        ap (λ (k : ℕ). Some k)
         (spi_once image v i e f.0 below ((has_spi_lem image desk spi i f.1).0 ∙ sym (has_spi_lem image desk spi e is).0))
-    by_answer found.Nothing q =
+    by_answer None q =
         let none : has_spi image desk spi e ≡ false = spi_missing image desk spi q e below in
         let z : ◌≡◌ {A = ℕ} 0 1 = cc in
         absurd (omega arith)
@@ -68,8 +65,8 @@ pub record Done (image last : List ℕ) (desk : ℕ) (command : List ℕ) (room 
   pub valid : valid_image image ≡ true
   pub agree : agrees image last ≡ true
   pub seated : wrong_desk desk command ≡ false
-  pub calls : called command ≡ calls.Procedure procedure
-  pub named : entry_named (procedure_is procedure) image desk (value_of command) ≡ found.At entry
+  pub calls : called command ≡ Some procedure
+  pub named : entry_named (procedure_is procedure) image desk (value_of command) ≡ Some entry
   pub under : Accepts (procedure_is procedure) image entry (number_of last entry) (value_of command) room
   pub reply : command_reply image last desk command room ≡ reply_at 0 (procedure_is procedure) image last entry (value_of command)
 
@@ -87,10 +84,10 @@ module _ (image last : List ℕ) (desk : ℕ) (command : List ℕ) (room : ℕ) 
       let t14 = passed 14 (is_nothing (entry_named (procedure_of command) image desk value)) _ (omega arith) t13.1 in
       by-called (not-false (valid_image image) t1.0) (not-false (agrees image last) t2.0) t19.0 (called command) refl t13.0 t14.0 t14.1
     where
-      by-found : (v : valid_image image ≡ true) (a : agrees image last ≡ true) (s : wrong_desk desk command ≡ false) (p : code.Procedure) (c : called command ≡ calls.Procedure p)
-          (x : Found) → entry_named (procedure_is p) image desk value ≡ x → is_nothing x ≡ false
+      by-found : (v : valid_image image ≡ true) (a : agrees image last ≡ true) (s : wrong_desk desk command ≡ false) (p : code.Procedure) (c : called command ≡ Some p)
+          (x : Option ℕ) → entry_named (procedure_is p) image desk value ≡ x → is_nothing x ≡ false
           → first (tests_at (procedure_is p) image last (index_of x) value room) ≡ 0 → Done image last desk command room
-      by-found v a s p c (found.At e) f some u =
+      by-found v a s p c (Some e) f some u =
           record {
             procedure = p;
             entry = e;
@@ -102,19 +99,19 @@ module _ (image last : List ℕ) (desk : ℕ) (command : List ℕ) (room : ℕ) 
             under = accepts-all (procedure_is p) image e (number_of last e) value room u;
             reply = rw (z, c, f);
           }
-      by-found v a s p c found.Nothing f some u = let q : ◌≡◌ {A = ℕ} 0 1 = cc in absurd (omega arith)
+      by-found v a s p c None f some u = let q : ◌≡◌ {A = ℕ} 0 1 = cc in absurd (omega arith)
 
-      by-called : (v : valid_image image ≡ true) (a : agrees image last ≡ true) (s : wrong_desk desk command ≡ false) (x : Called) → called command ≡ x → calls_none x ≡ false
+      by-called : (v : valid_image image ≡ true) (a : agrees image last ≡ true) (s : wrong_desk desk command ≡ false) (x : Option code.Procedure) → called command ≡ x → calls_none x ≡ false
           → is_nothing (entry_named (procedure_behind x) image desk value) ≡ false
           → first (tests_at (procedure_behind x) image last (index_of (entry_named (procedure_behind x) image desk value)) value room) ≡ 0
           → Done image last desk command room
-      by-called v a s (calls.Procedure p) c some named u = by-found v a s p c (entry_named (procedure_is p) image desk value) refl named u
-      by-called v a s calls.Nothing c some named u = let q : ◌≡◌ {A = ℕ} 0 1 = cc in absurd (omega arith)
+      by-called v a s (Some p) c some named u = by-found v a s p c (entry_named (procedure_is p) image desk value) refl named u
+      by-called v a s None c some named u = let q : ◌≡◌ {A = ℕ} 0 1 = cc in absurd (omega arith)
 
 -- ---- where it is done: at the entry that it names, or at none
 
 pub data Where (image last : List ℕ) (desk : ℕ) (command : List ℕ) (q : Reply) : Type 0 where
-  at : (p : code.Procedure) (i : ℕ) → called command ≡ calls.Procedure p → (procedure_is p).names ≡ true → i < count_of image → has_spi image desk (spi_named (value_of command)) i ≡ true
+  at : (p : code.Procedure) (i : ℕ) → called command ≡ Some p → (procedure_is p).names ≡ true → i < count_of image → has_spi image desk (spi_named (value_of command)) i ≡ true
       → Ready (procedure_is p) image last i (value_of command)
       → q ≡ reply_at 0 (procedure_is p) image last i (value_of command)
       → Where image last desk command q

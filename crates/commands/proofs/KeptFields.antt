@@ -10,6 +10,7 @@ use native.Mathlib.Decide.{ℕ_discrete}
 use native.Mathlib.Nat.{add-zero}
 use native.Mathlib.Omega.{arith}
 use lib.ListN.{length}
+use Rattle.std.specs.Prelude.{Option, Some, None}
 use Rattle.octets.specs.Lists.{octet, all}
 use lib.Dec.{eqb}
 use Rattle.octets.proofs.Alls.{and_left, and_right, all_every}
@@ -17,8 +18,7 @@ use Rattle.octets.proofs.Numbers.{number_at-same}
 use Rattle.octets.proofs.Outside.{Outside}
 use Rattle.octets.proofs.Parts.{part_same}
 use Rattle.kinds.specs.Kinds.{named}
-use Rattle.kinds.specs.declared.kinds.Named.{Named}
-use Rattle.kinds.specs.declared.kinds.Named.TheVariants as naming
+use Rattle.kinds.specs.declared.kinds.Kind as code
 use Rattle.marks.specs.Gray.{code_length, ungray}
 use Rattle.bodies.specs.Body.{state_of, operational, key_id_of, service_of, kind_in, direction_of, spacecraft_of, channel_of, map_of, mask_of, mark_of, owner_of}
 use Rattle.bodies.specs.Body.{service_ok, direction_ok, state_ok, kind_ok, window_ok, mark_ok, owner_ok, body_ok}
@@ -103,9 +103,9 @@ same_rest version body other same =
     }
 
 same_kind : (version : ℕ) (body other : List ℕ) → SameRest version body other
-    → (x : Named) → kind_ok version x other ≡ kind_ok version x body
-same_kind version body other f (naming.Kind k) = cc
-same_kind version body other f naming.Nothing = refl
+    → (x : Option code.Kind) → kind_ok version x other ≡ kind_ok version x body
+same_kind version body other f (Some k) = cc
+same_kind version body other f None = refl
 
 pub rules_again : (version : ℕ) (body other : List ℕ) → SameRest version body other → body_ok version body ≡ true
     → state_ok other ≡ true → window_ok other ≡ true → body_ok version other ≡ true

@@ -11,10 +11,10 @@ ghost use Rattle.procedures.specs.Procedures.{procedure_is};
 ghost use Rattle.commands.specs.Commanding.{made_by, command_reply, commanded};
 ghost use Rattle.commands.specs.Steps.{reply_under};
 
-use addressing::{Address, address_of};
+use addressing::address_of;
 use command_form::FRONT;
 use deciding::decide;
-use judging::{Grant, Verdict};
+use judging::Grant;
 use link::{Outcome, carried_out, refused};
 use marks::{make, make_all};
 use numbers::Numbers;
@@ -52,10 +52,9 @@ fn command_under(
     ensures { leaving result image.new output.new ≡ left (reply_under procedure image.old numbers.last entry value.now (length output.old)) image.old numbers.last output.old }
 {
     let last = numbers.of(entry);
-    let verdict = decide(image, entry, last, procedure, value, output.len());
-    match verdict {
-        Verdict::Refused(answer) => refused(answer, numbers),
-        Verdict::Granted(grant) => {
+    match decide(image, entry, last, procedure, value, output.len()) {
+        Err(first) => refused(Err(first), numbers),
+        Ok(grant) => {
             let plan = grant.plan;
             let made = make_all(image, plan);
             respond(grant, made, numbers, procedure, image, last, value, output)
@@ -77,10 +76,9 @@ fn cut_under(
     ensures image_after { image.new ≡ cut (reply_under procedure image.old numbers.last entry value.now room) image.old stores }
 {
     let last = numbers.of(entry);
-    let verdict = decide(image, entry, last, procedure, value, room);
-    match verdict {
-        Verdict::Refused(_) => 0,
-        Verdict::Granted(grant) => {
+    match decide(image, entry, last, procedure, value, room) {
+        Err(_refusal) => 0,
+        Ok(grant) => {
             let plan = grant.plan;
             make(image, plan, stores)
         }
@@ -99,10 +97,11 @@ pub fn command_cut(
     ensures value { result ≡ length (take stores (made_by (command_reply image.old numbers.last desk command.now room))) }
     ensures image_after { image.new ≡ cut (command_reply image.old numbers.last desk command.now room) image.old stores }
 {
-    let addressed = address_of(image, numbers, desk, command);
-    match addressed {
-        Address::Refused(_) => 0,
-        Address::To(procedure, entry) => {
+    match address_of(image, numbers, desk, command) {
+        Err(_) => 0,
+        Ok(address) => {
+            let procedure = address.procedure;
+            let entry = address.entry;
             cut_under(
                 image,
                 numbers,
@@ -126,10 +125,11 @@ pub fn command(
 ) -> Outcome
     ensures { leaving result image.new output.new ≡ commanded image.old numbers.last desk command.now output.old }
 {
-    let addressed = address_of(image, numbers, desk, command);
-    match addressed {
-        Address::Refused(answer) => refused(answer, numbers),
-        Address::To(procedure, entry) => {
+    match address_of(image, numbers, desk, command) {
+        Err(refusal) => refused(Err(refusal), numbers),
+        Ok(address) => {
+            let procedure = address.procedure;
+            let entry = address.entry;
             command_under(image, numbers, procedure, entry, &command[FRONT..], output)
         }
     }

@@ -5,7 +5,7 @@ ghost use Rattle.judging.specs.Verdicts.{Judged};
 ghost use Rattle.deciding.specs.Steps.{procedure_judged};
 
 use conditions::{allowed, new_number};
-use judging::{Answer, Grant, Verdict};
+use judging::{Grant, Refusal};
 use key_conditions::{key_known, key_ready};
 use plans::plan_of;
 use procedures::Procedure;
@@ -18,27 +18,27 @@ pub fn decide(
     procedure: Procedure,
     value: &[u8],
     room: usize,
-) -> Verdict
+) -> Result<Grant, Refusal>
     ensures { Judged result (procedure_judged procedure image.now entry last value.now room) }
 {
     if !procedure.asks(state_at(image, entry)) {
-        return Verdict::Refused(Answer::WrongState);
+        return Err(Refusal::WrongState);
     }
     if !allowed(procedure, image, entry, last, value) {
-        return Verdict::Refused(Answer::BadValue);
+        return Err(Refusal::BadValue);
     }
     if !key_known(procedure, image, entry, value) {
-        return Verdict::Refused(Answer::UnknownKey);
+        return Err(Refusal::UnknownKey);
     }
     if !key_ready(procedure, image, entry, value) {
-        return Verdict::Refused(Answer::WrongKeyState);
+        return Err(Refusal::WrongKeyState);
     }
     let size = reply_size(procedure, image, value);
     if room < size {
-        return Verdict::Refused(Answer::NoRoom);
+        return Err(Refusal::NoRoom);
     }
     let number = new_number(procedure, last, value);
-    Verdict::Granted(Grant {
+    Ok(Grant {
         entry,
         number,
         plan: plan_of(procedure, image, entry, number, value),

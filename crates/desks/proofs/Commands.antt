@@ -9,6 +9,7 @@ use mathlib.Core.List.{List}
 use native.Mathlib.Omega.{arith}
 use lib.ListN.{length}
 use lib.Seq.{take-nil, get_or-set_other}
+use Rattle.std.specs.Prelude.{Option, Some, None}
 use Rattle.octets.specs.Lists.{octet, Octets}
 use Rattle.octets.specs.Numbers.{number_at}
 use Rattle.marks.specs.Stores.{stored}
@@ -18,13 +19,10 @@ use Rattle.image.specs.Image.{version_of, body_at, part_at, key_with, valid_imag
 use Rattle.numbers.specs.Numbers.{agrees}
 use Rattle.numbers.specs.Stores.{stores_for}
 use Rattle.association.specs.Search.{has_spi, with_spi}
-use Rattle.association.specs.declared.search.Found.{Found}
-use Rattle.association.specs.declared.search.Found.TheVariants as found
 use Rattle.judging.specs.Answers.{first}
 use Rattle.judging.specs.Replies.{Reply}
 use Rattle.command_form.specs.Form.{value_of, spi_named}
 use Rattle.procedures.specs.Procedures.{key_state_in, procedure_is, called}
-use Rattle.procedures.specs.declared.procedure.Called.TheVariants as calls
 use Rattle.procedures.specs.declared.procedure.Procedure as code
 use Rattle.procedures.specs.declared.procedure.Procedure.TheVariants as procedure
 use Rattle.procedures.proofs.Calling.{called_parts}
@@ -59,7 +57,7 @@ use Rattle.desks.proofs.Shared.{shape_four, Touches}
 -- the entry that a command names, and the procedure that it calls
 pub record Calling (s : List ℕ) (desk : ℕ) (c : List ℕ) (e : ℕ) : Type 0 where
   pub procedure : code.Procedure
-  pub calls : called c ≡ calls.Procedure procedure
+  pub calls : called c ≡ Some procedure
   pub naming : (procedure_is procedure).names ≡ true
   pub names : Names s desk c e
 
@@ -225,15 +223,15 @@ module _ (d : ℕ) (s l t r : List ℕ) (b : Both d s l t r) (desk : ℕ) (c out
   found_alike : SameNamed s l t r desk c
   found_alike = by_row (row_in c).names refl
     where
-      by-found : (f : Found) → with_spi s desk spi ≡ f → SameNamed s l t r desk c
-      by-found (found.At i) e =
+      by-found : (f : Option ℕ) → with_spi s desk spi ≡ f → SameNamed s l t r desk c
+      by-found (Some i) e =
           let f = spi-found s desk spi i e in
           let n = named-kept s desk spi i f.1 in
           let names : Names s desk c i = record { entry = f.0; spi = n.0; seen = n.1 } in
           let own = owned d s l t r b desk c some is i names in
           both i i names (names-there d s l t r b desk c i names) (sym (frame b).version) (body_same d s t b.four b.same i own)
           (sym (b.numbers i f.0 own))
-      by-found found.Nothing e =
+      by-found None e =
           neither
           (λ i n. differs (has_spi s desk spi i) (named_tested s desk spi i n.spi n.seen) (spi_missing s desk spi e i n.entry))
           (λ j m.

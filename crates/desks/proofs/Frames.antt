@@ -8,6 +8,7 @@ use mathlib.Core.Bool.{Bool, true, false, true≢false}
 use mathlib.Core.List.{List}
 use native.Mathlib.Omega.{arith}
 use lib.ListN.{length, take}
+use Rattle.std.specs.Prelude.{Option, Some, None}
 use Rattle.octets.specs.Lists.{Octets}
 use Rattle.marks.specs.Stores.{stored}
 use Rattle.marks.specs.declared.plans.Store.{Store}
@@ -17,8 +18,6 @@ use Rattle.numbers.specs.Stores.{after_stores}
 use Rattle.association.specs.Association.{held_in, the_one, index_of}
 use Rattle.association.specs.Search.{matches, entry_for}
 use Rattle.association.specs.declared.held.Held.{Held}
-use Rattle.association.specs.declared.search.Found.{Found}
-use Rattle.association.specs.declared.search.Found.TheVariants as found
 use Rattle.association.specs.declared.search.Wanted.{Wanted}
 use Rattle.association.proofs.Finding.{found_at, found_nothing}
 use Rattle.protection.specs.Protection.{spi_in, mac_right}
@@ -110,12 +109,12 @@ module _ (d : ℕ) (s l t r : List ℕ) (b : Both d s l t r) (direction : ℕ) (
       v : Wanted
       v = wanted spi direction said clear
 
-      by-found : (f : Found) → entry_for s v ≡ f → SameEntry s l t r direction said spi clear
-      by-found (found.At e) is =
+      by-found : (f : Option ℕ) → entry_for s v ≡ f → SameEntry s l t r direction said spi clear
+      by-found (Some e) is =
           let f = found_at s v e is in
           let serves = serving s direction said spi clear e (omega (arith, f.to)) f.passes in
           same-entry d s l t r b direction said spi clear e serves (owned d s l t r b direction said spi clear some desk e serves)
-      by-found found.Nothing is =
+      by-found None is =
           neither (λ i serves. differs (matches s v i) (served s direction said spi clear i serves) (found_nothing s v is i serves.entry))
           (λ i serves.
           let own = owned d t r s l (back b) direction said spi clear some desk i serves in

@@ -10,7 +10,7 @@ use lib.ListN.{length, take, drop, length-append, take-append-drop}
 use lib.Seq.{drop-drop, drop-append-add, length-take-le}
 use Rattle.octets.specs.Numbers.{bytes}
 use Rattle.octets.specs.Output.{written, fronted}
-use Rattle.octets.proofs.Filling.{length-written, with_room, without_room, behind}
+use Rattle.octets.proofs.Filling.{with_room, without_room, behind}
 use Rattle.event_log.specs.Events.{Event, event_line, dump_value, dump_reply, erase_reply}
 use Rattle.event_log.specs.Held.{event_at, events_in, lines_behind}
 
@@ -50,9 +50,6 @@ module _ (out s : List ℕ) where
       length-append (take 3 out) (dump_value (events_in i s))
       ∙ ap (λ (k : ℕ). k + length (dump_value (events_in i s))) (length-take-le 3 out h)
       ∙ ap (λ (k : ℕ). 3 + k) (value-long i s)
-
-  pub lines_long : (i : ℕ) → 3 + 5 * i ≤ length out → length (lines_behind out s i) ≡ length out
-  lines_long i h = length-written (take 3 out ++ dump_value (events_in i s)) out (omega (arith, front_long i (omega arith)))
 
   pub lines_more : (i : ℕ) (whole : List ℕ) → 3 + 5 * i + 5 ≤ length out → whole ≡ lines_behind out s i
       → take (3 + 5 * i) whole ++ fronted (event_line (event_at s i)) (drop (3 + 5 * i) whole) ≡ lines_behind out s (i + 1)

@@ -20,11 +20,7 @@ pub const ERASE_REPLY: usize = 7;
 fn kept_count(kept: u32, events: &[u8]) -> usize
     ensures { (result ≡ kept_count kept events.now) × (result ≤ 256) }
 {
-    let room = room_for(events);
-    if kept < room {
-        return kept as usize;
-    }
-    room as usize
+    kept.min(room_for(events)) as usize
 }
 
 // Tag and length field of a dump of n events.
@@ -32,8 +28,8 @@ fn front_of(n: usize) -> [u8; 3]
     requires { n ≤ 256 }
     ensures { result ≡ 0xB3 ∷ bytes 2 (5 * n) }
 {
-    let size = LINE * n;
-    [0xB3, (size / 256 % 256) as u8, (size % 256) as u8]
+    let [high, low] = ((LINE * n) as u16).to_be_bytes();
+    [0xB3, high, low]
 }
 
 // An event as a dump tells it.
@@ -53,10 +49,8 @@ fn put_lines(events: &[u8], n: usize, output: &mut [u8])
     requires { (n ≤ 256) × (3 + 5 * n ≤ length output.old) }
     ensures { output.new ≡ lines_behind output.old events.now n }
 {
-    let mut i: usize = 0;
-    while i < n {
+    for i in 0..n {
         put_behind(&line_at(events, i), FRONT + LINE * i, output);
-        i += 1;
     }
 }
 
@@ -83,14 +77,7 @@ pub fn write_erase_reply(events: &[u8], output: &mut [u8])
     ensures { output.new ≡ fronted (erase_reply (room_for events.now)) output.old }
 {
     let free = EVENT * (room_for(events) as usize);
-    let reply: [u8; ERASE_REPLY] = [
-        0xB4,
-        0,
-        4,
-        0,
-        0,
-        (free / 256 % 256) as u8,
-        (free % 256) as u8,
-    ];
+    let [high, low] = (free as u16).to_be_bytes();
+    let reply: [u8; ERASE_REPLY] = [0xB4, 0, 4, 0, 0, high, low];
     put(&reply, output);
 }

@@ -7,9 +7,6 @@ pub(crate) const EVENT: usize = 3;
 
 const MOST_EVENTS: usize = 256;
 
-// The count of dropped events stays there.
-const MOST_DROPPED: u32 = 4294967295;
-
 // How many events are kept, and how many were dropped. A caller who lends one has it laid out as C does.
 #[repr(C)]
 #[derive(Clone, Copy)]
@@ -22,11 +19,7 @@ pub struct Log {
 pub(crate) fn room_for(events: &[u8]) -> u32
     ensures { (result ≡ room_for events.now) × (result ≤ 256) × (3 * result ≤ length events.now) }
 {
-    let whole = events.len() / EVENT;
-    if whole < MOST_EVENTS {
-        return whole as u32;
-    }
-    MOST_EVENTS as u32
+    (events.len() / EVENT).min(MOST_EVENTS) as u32
 }
 
 // An event's three octets at a place.
@@ -49,7 +42,7 @@ impl Log {
         }
     }
 
-    // With one event more, or one more dropped.
+    // With one event more, or one more dropped: their count stays at the greatest that it may be.
     pub fn entered(self, events: &mut [u8], desk: u8, tag: u8, answer: u8) -> Self
         ensures { lent_log result events.new ≡ entered_in (lent_log self events.old) (event desk tag answer) }
     {
@@ -62,12 +55,9 @@ impl Log {
                 dropped,
             };
         }
-        if dropped < MOST_DROPPED {
-            return Self {
-                kept,
-                dropped: dropped + 1,
-            };
+        Self {
+            kept,
+            dropped: dropped.saturating_add(1),
         }
-        self
     }
 }

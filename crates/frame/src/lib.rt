@@ -5,7 +5,6 @@
 mod closing;
 mod parts;
 mod rules;
-mod total;
 
 pub use closing::field_ok;
 pub use parts::{

@@ -4,7 +4,6 @@ ghost use Rattle.std.specs.Prelude.{◌≡◌};
 ghost use Rattle.kinds.specs.Kinds.{framed};
 ghost use Rattle.frame.specs.Parts.{clear_parts, secured_parts, secured_length, exceeds, too_short};
 
-use crate::total::less;
 use kinds::Framing;
 
 const MAC: usize = 16;
@@ -33,8 +32,8 @@ pub fn clear_parts(framing: Framing, frame: &[u8]) -> ClearParts
     let kind = framing.kind;
     ClearParts {
         header: kind.header_length(frame),
-        content: less(frame.len(), framing.trailer_length(frame)),
-        control: less(frame.len(), framing.field_length()),
+        content: frame.len().saturating_sub(framing.trailer_length(frame)),
+        control: frame.len().saturating_sub(framing.field_length()),
     }
 }
 
@@ -43,11 +42,11 @@ pub fn secured_parts(framing: Framing, security: u8, frame: &[u8]) -> SecuredPar
 {
     let kind = framing.kind;
     let header = kind.header_length(frame);
-    let mac = less(frame.len(), framing.trailer_length(frame));
+    let mac = frame.len().saturating_sub(framing.trailer_length(frame));
     SecuredParts {
         header,
         security: header + security as usize,
-        content: less(mac, MAC),
+        content: mac.saturating_sub(MAC),
         mac,
     }
 }

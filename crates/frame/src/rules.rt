@@ -3,7 +3,7 @@ ghost use Rattle.std.specs.Prelude.{◌≡◌};
 ghost use Rattle.kinds.specs.Kinds.{kind_of, with_check_field, framed};
 ghost use Rattle.frame.specs.Rules.{least, obeys};
 
-use kinds::{Framing, Named, kind_of};
+use kinds::{Framing, kind_of};
 
 // The least octets between header and trailer: one of data, or the SPI.
 fn least_between(secured: bool) -> usize
@@ -28,7 +28,7 @@ pub fn obeys(number: u8, field: bool, frame: &[u8], secured: bool) -> bool
     ensures { result ≡ obeys (with_check_field field (kind_of number)) frame.now secured }
 {
     match kind_of(number) {
-        Named::Kind(kind) => framing_obeyed(Framing { kind, field }, frame, secured),
-        Named::Nothing => false,
+        Some(kind) => framing_obeyed(Framing { kind, field }, frame, secured),
+        None => false,
     }
 }

@@ -1,8 +1,7 @@
 // What the crate `frame` answers on a case.
-use kinds::{Framing, Kind, Named, Rewritten};
-use lines::{front, print_number};
-use masking::Written;
-use std::io;
+use kinds::{Framing, Kind};
+use lines::front;
+use std::{fmt, io};
 
 // What a line says of a case, beside the frame's octets and the mask's.
 #[derive(Clone, Copy)]
@@ -15,34 +14,26 @@ pub(crate) struct Case {
     pub length: usize,
 }
 
-fn print(rt: &impl Print, n: usize) -> io::Result<()> {
-    print_number(rt, b" ", n as u64)
-}
-
-fn print_octet(rt: &impl Print, octet: u8) -> io::Result<()> {
-    print(rt, octet as usize)
+fn print<T: fmt::Display + Drop>(rt: &impl Print, value: T) -> io::Result<()> {
+    print!(rt; " {value}")
 }
 
 fn print_each(rt: &impl Print, octets: &[u8]) -> io::Result<()> {
     for octet in octets {
-        print_octet(rt, *octet)?;
+        print(rt, *octet)?;
     }
     Ok(())
-}
-
-fn print_test(rt: &impl Print, test: bool) -> io::Result<()> {
-    print_octet(rt, test as u8)
 }
 
 fn print_kind(rt: &impl Print, kind: Kind, frame: &[u8]) -> io::Result<()> {
     print(rt, kind.header_length(frame))?;
     print(rt, kind.largest())?;
-    print(rt, kind.spacecraft(frame) as usize)?;
-    print_octet(rt, kind.channel(frame))?;
-    print_octet(rt, kind.map(frame))?;
-    print(rt, kind.most_spacecraft() as usize)?;
-    print_octet(rt, kind.most_channel())?;
-    print_octet(rt, kind.most_map())
+    print(rt, kind.spacecraft(frame))?;
+    print(rt, kind.channel(frame))?;
+    print(rt, kind.map(frame))?;
+    print(rt, kind.most_spacecraft())?;
+    print(rt, kind.most_channel())?;
+    print(rt, kind.most_map())
 }
 
 fn print_parts(rt: &impl Print, framing: Framing, security: u8, frame: &[u8]) -> io::Result<()> {
@@ -57,17 +48,16 @@ fn print_parts(rt: &impl Print, framing: Framing, security: u8, frame: &[u8]) ->
     print(rt, secured.content)?;
     print(rt, secured.mac)?;
     print(rt, frame::secured_length(security, frame))?;
-    print_test(rt, frame::exceeds(framing, security, frame))?;
-    print_test(rt, frame::too_short(framing, security, frame))?;
-    print_test(rt, frame::field_ok(framing, frame))
+    print(rt, u8::from(frame::exceeds(framing, security, frame)))?;
+    print(rt, u8::from(frame::too_short(framing, security, frame)))?;
+    print(rt, u8::from(frame::field_ok(framing, frame)))
 }
 
 // The header under the mask, in an output whose octets are 165 before, so that those behind the header are seen to stay.
 fn print_masked(rt: &impl Print, framing: Framing, mask: &[u8], frame: &[u8]) -> io::Result<()> {
     let mut out = [165u8; 8];
-    match masking::mask_header(framing, mask, frame, &mut out) {
-        Written::Octets(count) => print(rt, count)?,
-        Written::NoRoom => {}
+    if let Some(count) = masking::mask_header(framing, mask, frame, &mut out) {
+        print(rt, count)?;
     }
     print_each(rt, &out)
 }
@@ -80,13 +70,9 @@ fn rewrite_front(
     longer: usize,
 ) -> io::Result<()> {
     if n <= s.len() {
-        match kind.rewrite_length(&mut s[..n], longer) {
-            Rewritten::Field => print(rt, 1),
-            Rewritten::Nothing => print(rt, 0),
-        }
-    } else {
-        Ok(())
+        print(rt, u8::from(kind.rewrite_length(&mut s[..n], longer)))?;
     }
+    Ok(())
 }
 
 fn print_named(
@@ -122,15 +108,16 @@ pub(crate) fn print_answers(
     mask: &[u8],
     whole: &mut [u8],
 ) -> io::Result<()> {
-    print_number(rt, b"", case.kind as u64)?;
+    let number = case.kind;
+    print!(rt; "{number}")?;
     let obeys = frame::obeys(
         case.kind,
         case.field,
         front(whole, case.length),
         case.is_secured,
     );
-    print_test(rt, obeys)?;
-    let Named::Kind(kind) = kinds::kind_of(case.kind) else {
+    print(rt, u8::from(obeys))?;
+    let Some(kind) = kinds::kind_of(case.kind) else {
         return Ok(());
     };
     print_named(rt, kind, case, mask, whole)

@@ -5,10 +5,12 @@
 mod answers;
 
 use answers::{Case, print_answers};
-use lines::{print, read_line, read_octets};
+use lines::{each_line, read_octets};
 use octets::{put_behind, two_at};
 use std::io;
-use std::io::Read;
+
+// The characters of a line.
+const LINE: usize = 45;
 
 // A line is 22 octets in hexadecimal. The first seven: kind, 1 if secured and else 0, 1 if it is said to end in a check field and else 0,
 // length of the security header, octets of the mask that are used, length of the frame in two octets.
@@ -32,11 +34,10 @@ fn put_last(last: &[u8; 2], n: usize, whole: &mut [u8]) {
     }
 }
 
-// Whether there was a line. Its other octets are the first seven of the frame and its last two, whose others are 0, and six of mask. The
+// Whether the line is whole. Its other octets are the first seven of the frame and its last two, whose others are 0, and six of mask. The
 // room is for the longest frame of the cases.
-fn run_line(rt: &impl Print, input: &mut impl Read) -> io::Result<bool> {
-    let mut line = [0u8; 45];
-    if read_line(input, &mut line)? < 45 {
+fn run_line(rt: &impl Print, line: &[u8]) -> io::Result<bool> {
+    if line.len() < LINE {
         return Ok(false);
     }
     let mut whole = [0u8; 4096];
@@ -45,20 +46,18 @@ fn run_line(rt: &impl Print, input: &mut impl Read) -> io::Result<bool> {
     read_octets(&line[14..28], &mut whole);
     read_octets(&line[28..32], &mut last);
     read_octets(&line[32..44], &mut mask);
-    let case = case_of(&line);
+    let case = case_of(line);
     put_last(&last, case.length, &mut whole);
     print_answers(rt, case, &mask, &mut whole)?;
-    print(rt, b"\n")?;
+    println!(rt)?;
     Ok(true)
 }
 
-// A proved loop has to end, and nothing says that the input does: the bound is a number of lines that it does not have.
+// The last line that is read, counted from 0.
+const LAST_LINE: u64 = 65535;
+
 fn main(rt: HostRuntime) -> io::Result<()> {
-    let mut input = rt.reader();
-    for _ in 0..65536 {
-        if !run_line(&rt, &mut input)? {
-            break;
-        }
-    }
-    Ok(())
+    each_line(&mut rt.reader(), &mut [0; LINE], |n, line| {
+        Ok(run_line(&rt, line)? && n < LAST_LINE)
+    })
 }

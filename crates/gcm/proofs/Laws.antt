@@ -1,14 +1,15 @@
 -- What the layers above rest on: the lengths and the octets of a ciphertext, a plaintext and a tag, that decryption undoes encryption, the
--- limits of the lengths in octets, and what each call answers and leaves in its output.
+-- limits of the lengths in octets, and what a call that is not refused returns and leaves in its output.
 -- Assumes nothing.
 use mathlib.Core.Path.{◌≡◌, ◌∙◌, refl, ap}
 use mathlib.Core.Bool.{Bool, true, false, ◌||◌}
 use mathlib.Core.List.{List}
-use Prim.Native.Nat.{ℕ, ◌+◌, ◌-◌, ◌*◌, ◌^◌, ◌≤◌, ◌<◌}
+use Prim.Native.Nat.{ℕ, ◌+◌, ◌-◌, ◌*◌, ◌^◌, ◌≤◌}
 use native.Mathlib.Omega.{arith}
+use Rattle.std.specs.Prelude.{Ok, Err}
 use borrow.Author.Tests.{lt-ltb, le-ltb, ltb-true, ltb-false}
 use lib.Dec.{ltb}
-use lib.ListN.{length, replicate}
+use lib.ListN.{length}
 use Rattle.octets.specs.Lists.{Octets}
 use Rattle.octets.specs.Numbers.{bytes}
 use Rattle.octets.specs.Output.{written}
@@ -24,10 +25,9 @@ use Rattle.gcm.specs.Encryption.{j0, ciphertext_under, ciphertext, authenticated
 use Rattle.gcm.specs.Encryption.Opened.{ciphertext-is, tag_is}
 use Rattle.gcm.specs.Decryption.{plaintext_under, plaintext}
 use Rattle.gcm.specs.Decryption.Opened.{plaintext-is}
-use Rattle.gcm.specs.Calls.{call, with_tag, sealed_under, sealed, checked_under, decrypted_under, opened}
-use Rattle.gcm.specs.declared.Answer.TheVariants as answer
-use Rattle.gcm.specs.declared.Checked.TheVariants as verdict
-use Rattle.gcm.specs.declared.Outcome.TheVariants as outcome
+use Rattle.gcm.specs.Calls.{call, sealed_under, sealed, checked_under, decrypted_under, opened}
+use Rattle.gcm.specs.declared.Refusal.{Refusal}
+use Rattle.std.proofs.lemmas.Grind.{common_steps}
 
 -- ciphertext, plaintext and tag
 pub length-ciphertext_under : (w iv p : List ℕ) → length (ciphertext_under w iv p) ≡ length p
@@ -80,67 +80,24 @@ pub allowed : (a p : List ℕ) → length a ≤ 2 ^ 61 - 1 → length p ≤ 2 ^ 
 allowed a p ha hp =
     limits a p ∙ rw (le-ltb (2 ^ 61 - 1) (length a) ha, text_limit p, le-ltb (2 ^ 36 - 32) (length p) hp)
 
--- what sealing answers and leaves
-module _ (w iv a p out : List ℕ) where
-  pub sealed_under_too_long : too_long a p ≡ true → sealed_under w iv a p out ≡ call (with_tag answer.TooLong (replicate 16 0)) out
-  sealed_under_too_long e = rw e
-
-  pub sealed_under_no_room : too_long a p ≡ false → length out < length p
-      → sealed_under w iv a p out ≡ call (with_tag answer.NoRoom (replicate 16 0)) out
-  sealed_under_no_room e h = rw (e, lt-ltb (length out) (length p) h)
-
-  pub sealed_under-done : too_long a p ≡ false → length p ≤ length out
-      → sealed_under w iv a p out
-      ≡ call (with_tag answer.Done (tag_under w iv a (ciphertext_under w iv p))) (written (ciphertext_under w iv p) out)
-  sealed_under-done e h = rw (e, le-ltb (length out) (length p) h)
+-- a call that is not refused
+pub sealed_under-done : (w iv a p out : List ℕ) → too_long a p ≡ false → length p ≤ length out
+    → sealed_under w iv a p out ≡ call (Ok (tag_under w iv a (ciphertext_under w iv p))) (written (ciphertext_under w iv p) out)
+sealed_under-done w iv a p out e h = rw (e, le-ltb (length out) (length p) h)
 
 pub sealed-done : (key iv a p out : List ℕ) → too_long a p ≡ false → length p ≤ length out
-    → sealed key iv a p out ≡ call (with_tag answer.Done (tag key iv a (ciphertext key iv p))) (written (ciphertext key iv p) out)
+    → sealed key iv a p out ≡ call (Ok (tag key iv a (ciphertext key iv p))) (written (ciphertext key iv p) out)
 unfolding sealed
 sealed-done key iv a p out e h = sealed_under-done (key_expansion key) iv a p out e h
 
--- what checking answers
-module _ (w iv a c t : List ℕ) where
-  pub checked_under_too_long : too_long a c ≡ true → checked_under w iv a c t ≡ verdict.TooLong
-  checked_under_too_long e = rw e
+pub decrypted_under-done : (w iv c out : List ℕ) → text_too_long c ≡ false → length c ≤ length out
+    → decrypted_under w iv c out ≡ call (Ok tt) (written (plaintext_under w iv c) out)
+decrypted_under-done w iv c out e h = rw (e, le-ltb (length out) (length c) h)
 
-  pub checked_under-right : too_long a c ≡ false → same (tag_under w iv a c) t ≡ true → checked_under w iv a c t ≡ verdict.Right
-  checked_under-right e s = rw (e, s)
-
-  pub checked_under_wrong : too_long a c ≡ false → same (tag_under w iv a c) t ≡ false → checked_under w iv a c t ≡ verdict.Wrong
-  checked_under_wrong e s = rw (e, s)
-
--- what decrypting answers and leaves
-module _ (w iv c out : List ℕ) where
-  pub decrypted_under_too_long : text_too_long c ≡ true → decrypted_under w iv c out ≡ call answer.TooLong out
-  decrypted_under_too_long e = rw e
-
-  pub decrypted_under_no_room : text_too_long c ≡ false → length out < length c → decrypted_under w iv c out ≡ call answer.NoRoom out
-  decrypted_under_no_room e h = rw (e, lt-ltb (length out) (length c) h)
-
-  pub decrypted_under-done : text_too_long c ≡ false → length c ≤ length out
-      → decrypted_under w iv c out ≡ call answer.Done (written (plaintext_under w iv c) out)
-  decrypted_under-done e h = rw (e, le-ltb (length out) (length c) h)
-
--- what `open` answers and leaves
-module _ (key iv a c t out : List ℕ) where
-  pub opened_too_long : too_long a c ≡ true → opened key iv a c t out ≡ call outcome.TooLong out
-  unfolding opened
-  opened_too_long e = rw e
-
-  pub opened_wrong : too_long a c ≡ false → same (tag key iv a c) t ≡ false → opened key iv a c t out ≡ call outcome.Wrong out
-  unfolding opened
-  opened_wrong e s = rw (e, s)
-
-  pub opened_no_room : too_long a c ≡ false → same (tag key iv a c) t ≡ true → length out < length c
-      → opened key iv a c t out ≡ call outcome.NoRoom out
-  unfolding opened
-  opened_no_room e s h = rw (e, s, lt-ltb (length out) (length c) h)
-
-  pub opened-done : too_long a c ≡ false → same (tag key iv a c) t ≡ true → length c ≤ length out
-      → opened key iv a c t out ≡ call outcome.Done (written (plaintext key iv c) out)
-  unfolding opened
-  opened-done e s h = rw (e, s, le-ltb (length out) (length c) h)
+pub opened-done : (key iv a c t out : List ℕ) → too_long a c ≡ false → same (tag key iv a c) t ≡ true → length c ≤ length out
+    → opened key iv a c t out ≡ call (Ok tt) (written (plaintext key iv c) out)
+unfolding opened
+opened-done key iv a c t out e s h = rw (e, s, le-ltb (length out) (length c) h)
 
 -- what `seal` makes `open` takes
 module _ (key iv a p out : List ℕ) where
@@ -149,9 +106,19 @@ module _ (key iv a p out : List ℕ) where
   same_limit = rw (length-ciphertext key iv p)
 
   pub opened-sealed : too_long a p ≡ false → length p ≤ length out
-      → opened key iv a (ciphertext key iv p) (tag key iv a (ciphertext key iv p)) out ≡ call outcome.Done (written p out)
+      → opened key iv a (ciphertext key iv p) (tag key iv a (ciphertext key iv p)) out ≡ call (Ok tt) (written p out)
   opened-sealed e h =
       let c : List ℕ = ciphertext key iv p in
       let room : length c ≤ length out = omega (arith, length-ciphertext key iv p) in
       opened-done key iv a c (tag key iv a c) out (same_limit ∙ e) (same_refl (tag key iv a c)) room
-      ∙ ap (λ (l : List ℕ). call outcome.Done (written l out)) (decrypted_back key iv p)
+      ∙ ap (λ (l : List ℕ). call (Ok tt) (written l out)) (decrypted_back key iv p)
+
+-- `open` checks, and then decrypts
+module _ (key w iv a c t out : List ℕ) (expanded : w ≡ key_expansion key) where
+  pub opened_refused : (r : Refusal) → checked_under w iv a c t ≡ Err r → opened key iv a c t out ≡ call (Err r) out
+  unfolding opened
+  opened_refused r e = grind (arith, common_steps)
+
+  pub opened-checked : checked_under w iv a c t ≡ Ok tt → opened key iv a c t out ≡ decrypted_under w iv c out
+  unfolding opened too_long
+  opened-checked e = grind (arith, common_steps)

@@ -2,20 +2,15 @@
 -- data a, a plaintext p or a ciphertext c, a tag t, and the output as it was. A text goes to the front of the output, and the rest of it stays; a call
 -- that refuses leaves all of it as it was.
 -- Assumes nothing.
-use Rattle.std.specs.Prelude.{ℕ, cond, not, List, ltb, length, replicate}
+use Rattle.std.specs.Prelude.{ℕ, cond, not, List, Result, Ok, Err, ltb, length}
 use Rattle.octets.specs.Same.{same}
 use Rattle.key_schedule.specs.KeyExpansion.{key_expansion}
 use Rattle.gcm.specs.Lengths.{text_too_long, too_long}
 use Rattle.octets.specs.Output.{written}
 use Rattle.gcm.specs.Encryption.{ciphertext_under, tag_under, tag}
 use Rattle.gcm.specs.Decryption.{plaintext_under, plaintext}
-use Rattle.gcm.specs.declared.Answer.{Answer}
-use Rattle.gcm.specs.declared.Answer.TheVariants as answer
-use Rattle.gcm.specs.declared.Checked.{Checked}
-use Rattle.gcm.specs.declared.Checked.TheVariants as verdict
-use Rattle.gcm.specs.declared.Outcome.{Outcome}
-use Rattle.gcm.specs.declared.Outcome.TheVariants as outcome
-use Rattle.gcm.specs.declared.Sealed.{Sealed}
+use Rattle.gcm.specs.declared.Refusal.{Refusal}
+use Rattle.gcm.specs.declared.Refusal.TheVariants as refusal
 
 -- what a call returns, and its output as it returns
 pub record Call (A : Type 0) : Type 0 where
@@ -25,40 +20,37 @@ pub record Call (A : Type 0) : Type 0 where
 abbrev pub call : {A : Type 0} → A → List ℕ → Call A
 call r o = record { result = r; out = o }
 
-abbrev pub with_tag : Answer → List ℕ → Sealed
-with_tag r t = record { answer = r; tag = t }
-
 -- 7.1
-abbrev pub sealed_under : List ℕ → List ℕ → List ℕ → List ℕ → List ℕ → Call Sealed
+abbrev pub sealed_under : List ℕ → List ℕ → List ℕ → List ℕ → List ℕ → Call (Result (List ℕ) Refusal)
 sealed_under w iv a p out =
-    cond (too_long a p) (call (with_tag answer.TooLong (replicate 16 0)) out)
-    (cond (ltb (length out) (length p)) (call (with_tag answer.NoRoom (replicate 16 0)) out)
-    (call (with_tag answer.Done (tag_under w iv a (ciphertext_under w iv p))) (written (ciphertext_under w iv p) out)))
+    cond (too_long a p) (call (Err refusal.TooLong) out)
+    (cond (ltb (length out) (length p)) (call (Err refusal.NoRoom) out)
+    (call (Ok (tag_under w iv a (ciphertext_under w iv p))) (written (ciphertext_under w iv p) out)))
 
-unfoldable pub sealed : List ℕ → List ℕ → List ℕ → List ℕ → List ℕ → Call Sealed
+unfoldable pub sealed : List ℕ → List ℕ → List ℕ → List ℕ → List ℕ → Call (Result (List ℕ) Refusal)
 sealed key iv a p out = sealed_under (key_expansion key) iv a p out
 
 -- 7.2 but for step 4
-abbrev pub checked_under : List ℕ → List ℕ → List ℕ → List ℕ → List ℕ → Checked
-checked_under w iv a c t = cond (too_long a c) verdict.TooLong (cond (same (tag_under w iv a c) t) verdict.Right verdict.Wrong)
+abbrev pub checked_under : List ℕ → List ℕ → List ℕ → List ℕ → List ℕ → Result Unit Refusal
+checked_under w iv a c t = cond (too_long a c) (Err refusal.TooLong) (cond (same (tag_under w iv a c) t) (Ok tt) (Err refusal.WrongTag))
 
-unfoldable pub checked : List ℕ → List ℕ → List ℕ → List ℕ → List ℕ → Checked
+unfoldable pub checked : List ℕ → List ℕ → List ℕ → List ℕ → List ℕ → Result Unit Refusal
 checked key iv a c t = checked_under (key_expansion key) iv a c t
 
 -- 7.2, step 4
-abbrev pub decrypted_under : List ℕ → List ℕ → List ℕ → List ℕ → Call Answer
+abbrev pub decrypted_under : List ℕ → List ℕ → List ℕ → List ℕ → Call (Result Unit Refusal)
 decrypted_under w iv c out =
-    cond (text_too_long c) (call answer.TooLong out)
-    (cond (ltb (length out) (length c)) (call answer.NoRoom out)
-    (call answer.Done (written (plaintext_under w iv c) out)))
+    cond (text_too_long c) (call (Err refusal.TooLong) out)
+    (cond (ltb (length out) (length c)) (call (Err refusal.NoRoom) out)
+    (call (Ok tt) (written (plaintext_under w iv c) out)))
 
-unfoldable pub decrypted : List ℕ → List ℕ → List ℕ → List ℕ → Call Answer
+unfoldable pub decrypted : List ℕ → List ℕ → List ℕ → List ℕ → Call (Result Unit Refusal)
 decrypted key iv c out = decrypted_under (key_expansion key) iv c out
 
 -- 7.2
-unfoldable pub opened : List ℕ → List ℕ → List ℕ → List ℕ → List ℕ → List ℕ → Call Outcome
+unfoldable pub opened : List ℕ → List ℕ → List ℕ → List ℕ → List ℕ → List ℕ → Call (Result Unit Refusal)
 opened key iv a c t out =
-    cond (too_long a c) (call outcome.TooLong out)
-    (cond (not (same (tag key iv a c) t)) (call outcome.Wrong out)
-    (cond (ltb (length out) (length c)) (call outcome.NoRoom out)
-    (call outcome.Done (written (plaintext key iv c) out))))
+    cond (too_long a c) (call (Err refusal.TooLong) out)
+    (cond (not (same (tag key iv a c) t)) (call (Err refusal.WrongTag) out)
+    (cond (ltb (length out) (length c)) (call (Err refusal.NoRoom) out)
+    (call (Ok tt) (written (plaintext key iv c) out))))

@@ -1,7 +1,7 @@
 // GCM (SP 800-38D) with AES-256, an IV of 96 bits and a tag of 128 bits. What a call answers and leaves in its output is given, from the
 // values at its entry, by a definition of specs/Calls. A caller that uses a key more than once expands it once, and takes the functions under
 // an expanded key; there it also says which engine is to make the blocks, by the tables that it lends (crate `engines`). `decrypt` looks at no
-// tag: it is for a caller that has had `Right` of `check`.
+// tag: it is for a caller that `check` has not refused.
 #![tactic(auto)]
 
 mod steps;
@@ -20,34 +20,14 @@ const MOST_TEXT: usize = 0xf_ffff_ffe0;
 // 5.2.1.1, in octets: additional data has at most (2^64 - 1) / 8, rounded down.
 const MOST_ADDITIONAL: usize = 0x1fff_ffff_ffff_ffff;
 
-// Of several reasons the first named here is answered: a length that the standard does not allow; an output that is shorter than the text.
-#[derive(Clone, Copy)]
-pub enum Answer {
-    Done,
+// Why a call refuses. Of several reasons the first in this order is given.
+#[derive(Clone, Copy, PartialEq, Eq)]
+pub enum Refusal {
+    // A length that the standard does not allow.
     TooLong,
-    NoRoom,
-}
-
-// The tag is all zeros where the answer is not Done.
-#[derive(Clone, Copy)]
-pub struct Sealed {
-    pub answer: Answer,
-    pub tag: [u8; 16],
-}
-
-#[derive(Clone, Copy)]
-pub enum Checked {
-    Right,
-    Wrong,
-    TooLong,
-}
-
-// Of several reasons the first in this order is answered: TooLong, Wrong, NoRoom.
-#[derive(Clone, Copy)]
-pub enum Outcome {
-    Done,
-    TooLong,
-    Wrong,
+    // A tag that is not the ciphertext's.
+    WrongTag,
+    // An output that is shorter than the text.
     NoRoom,
 }
 
@@ -71,36 +51,31 @@ pub fn seal_under(
     additional: &[u8],
     plain: &[u8],
     out: &mut [u8],
-) -> Sealed
+) -> Result<[u8; 16], Refusal>
     requires { Lent tables.now }
     ensures { call result out.new ≡ sealed_under expanded.now iv additional.now plain.now out.old }
 {
     if too_long(additional, plain) {
-        return Sealed {
-            answer: Answer::TooLong,
-            tag: [0; 16],
-        };
+        return Err(Refusal::TooLong);
     }
     let n = plain.len();
     if out.len() < n {
-        return Sealed {
-            answer: Answer::NoRoom,
-            tag: [0; 16],
-        };
+        return Err(Refusal::NoRoom);
     }
     crypt(tables, expanded, iv, plain, out);
-    let tag = make_tag(tables, expanded, iv, additional, &out[..n]);
-    Sealed {
-        answer: Answer::Done,
-        tag,
-    }
+    Ok(make_tag(tables, expanded, iv, additional, &out[..n]))
 }
 
-pub fn seal(key: [u8; 32], iv: [u8; 12], additional: &[u8], plain: &[u8], out: &mut [u8]) -> Sealed
+pub fn seal(
+    key: [u8; 32],
+    iv: [u8; 12],
+    additional: &[u8],
+    plain: &[u8],
+    out: &mut [u8],
+) -> Result<[u8; 16], Refusal>
     ensures { call result out.new ≡ sealed key iv additional.now plain.now out.old }
 {
-    let expanded = expand_key(key);
-    seal_under(&[], &expanded, iv, additional, plain, out)
+    seal_under(&[], &expand_key(key), iv, additional, plain, out)
 }
 
 // 7.2 but for step 4: whether the tag is the ciphertext's.
@@ -111,17 +86,17 @@ pub fn check_under(
     additional: &[u8],
     ciphertext: &[u8],
     tag: [u8; 16],
-) -> Checked
+) -> Result<(), Refusal>
     requires { Lent tables.now }
     ensures { result ≡ checked_under expanded.now iv additional.now ciphertext.now tag }
 {
     if too_long(additional, ciphertext) {
-        return Checked::TooLong;
+        return Err(Refusal::TooLong);
     }
     if tag_is(tables, expanded, iv, additional, ciphertext, tag) {
-        Checked::Right
+        Ok(())
     } else {
-        Checked::Wrong
+        Err(Refusal::WrongTag)
     }
 }
 
@@ -131,11 +106,10 @@ pub fn check(
     additional: &[u8],
     ciphertext: &[u8],
     tag: [u8; 16],
-) -> Checked
+) -> Result<(), Refusal>
     ensures { result ≡ checked key iv additional.now ciphertext.now tag }
 {
-    let expanded = expand_key(key);
-    check_under(&[], &expanded, iv, additional, ciphertext, tag)
+    check_under(&[], &expand_key(key), iv, additional, ciphertext, tag)
 }
 
 // 7.2, step 4: the plaintext to the front of out, for a caller that has seen the tag to be right.
@@ -145,25 +119,29 @@ pub fn decrypt_under(
     iv: [u8; 12],
     ciphertext: &[u8],
     out: &mut [u8],
-) -> Answer
+) -> Result<(), Refusal>
     requires { Lent tables.now }
     ensures { call result out.new ≡ decrypted_under expanded.now iv ciphertext.now out.old }
 {
     if text_too_long(ciphertext) {
-        return Answer::TooLong;
+        return Err(Refusal::TooLong);
     }
     if out.len() < ciphertext.len() {
-        return Answer::NoRoom;
+        return Err(Refusal::NoRoom);
     }
     crypt(tables, expanded, iv, ciphertext, out);
-    Answer::Done
+    Ok(())
 }
 
-pub fn decrypt(key: [u8; 32], iv: [u8; 12], ciphertext: &[u8], out: &mut [u8]) -> Answer
+pub fn decrypt(
+    key: [u8; 32],
+    iv: [u8; 12],
+    ciphertext: &[u8],
+    out: &mut [u8],
+) -> Result<(), Refusal>
     ensures { call result out.new ≡ decrypted key iv ciphertext.now out.old }
 {
-    let expanded = expand_key(key);
-    decrypt_under(&[], &expanded, iv, ciphertext, out)
+    decrypt_under(&[], &expand_key(key), iv, ciphertext, out)
 }
 
 // 7.2: the plaintext to the front of out if the tag is right; if it is not, out stays as it was.
@@ -174,19 +152,10 @@ pub fn open(
     ciphertext: &[u8],
     tag: [u8; 16],
     out: &mut [u8],
-) -> Outcome
+) -> Result<(), Refusal>
     ensures { call result out.new ≡ opened key iv additional.now ciphertext.now tag out.old }
 {
-    if too_long(additional, ciphertext) {
-        return Outcome::TooLong;
-    }
     let expanded = expand_key(key);
-    if !tag_is(&[], &expanded, iv, additional, ciphertext, tag) {
-        return Outcome::Wrong;
-    }
-    if out.len() < ciphertext.len() {
-        return Outcome::NoRoom;
-    }
-    crypt(&[], &expanded, iv, ciphertext, out);
-    Outcome::Done
+    check_under(&[], &expanded, iv, additional, ciphertext, tag)?;
+    decrypt_under(&[], &expanded, iv, ciphertext, out)
 }

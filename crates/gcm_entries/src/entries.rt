@@ -3,8 +3,7 @@ ghost use Rattle.std.specs.Prelude.{◌≡◌};
 ghost use Rattle.vector_lines.specs.Spelled.{octets_in};
 ghost use Rattle.gcm_entries.specs.Entry.{entry_in};
 
-use lines::{field, read_octets};
-use vector_lines::{is_empty, is_whole, spells};
+use vector_lines::{is_empty, is_whole, octets, spells};
 
 pub(crate) const PLAINTEXT: usize = 2;
 
@@ -26,7 +25,5 @@ pub fn is_entry(line: &[u8]) -> bool
 pub fn iv(line: &[u8]) -> [u8; 12]
     ensures { result ≡ octets_in 12 1 line.now }
 {
-    let mut octets = [0u8; 12];
-    read_octets(field(line, 1), &mut octets);
-    octets
+    octets(line, 1)
 }

@@ -4,50 +4,38 @@ ghost use Rattle.vector_lines.specs.Spelled.{text_in};
 ghost use Rattle.gcm_entries.specs.Entry.{OpenedFrom, OpenedAs};
 
 use crate::entries::{ADDITIONAL, CIPHERTEXT, PLAINTEXT, TAG, iv};
-use lines::{field, front, read_octets};
-use vector_lines::{block, is_field, key};
+use lines::front;
+use vector_lines::{is_field, key, octets, read_field};
 
 fn is_opened_by_octets(line: &[u8], additional: &[u8], ciphertext: &[u8]) -> bool
     ensures { result ≡ true → OpenedFrom line.now additional.now ciphertext.now }
 {
     let mut out = [0u8; 64];
-    let tag = block(line, TAG);
-    let outcome = gcm::open(key(line), iv(line), additional, ciphertext, tag, &mut out);
-    let gcm::Outcome::Done = outcome else {
-        return false;
-    };
-    is_field(line, PLAINTEXT, front(&out, ciphertext.len()))
+    let tag = octets(line, TAG);
+    let opened = gcm::open(key(line), iv(line), additional, ciphertext, tag, &mut out);
+    opened.is_ok() && is_field(line, PLAINTEXT, front(&out, ciphertext.len()))
 }
 
 fn is_checked_by_words(line: &[u8], additional: &[u8], ciphertext: &[u8]) -> bool {
     let tables = word_tables::word_tables();
     let expanded = cipher::expand_key(key(line));
-    let tag = block(line, TAG);
-    let checked = gcm::check_under(&tables, &expanded, iv(line), additional, ciphertext, tag);
-    if let gcm::Checked::Right = checked {
-        true
-    } else {
-        false
-    }
+    let tag = octets(line, TAG);
+    gcm::check_under(&tables, &expanded, iv(line), additional, ciphertext, tag).is_ok()
 }
 
 fn is_decrypted_by_words(line: &[u8], ciphertext: &[u8]) -> bool {
     let tables = word_tables::word_tables();
     let expanded = cipher::expand_key(key(line));
     let mut out = [0u8; 64];
-    let answer = gcm::decrypt_under(&tables, &expanded, iv(line), ciphertext, &mut out);
-    let gcm::Answer::Done = answer else {
-        return false;
-    };
-    is_field(line, PLAINTEXT, front(&out, ciphertext.len()))
+    let decrypted = gcm::decrypt_under(&tables, &expanded, iv(line), ciphertext, &mut out);
+    decrypted.is_ok() && is_field(line, PLAINTEXT, front(&out, ciphertext.len()))
 }
 
 fn is_opened_with(line: &[u8], additional: &[u8]) -> bool
     ensures { result ≡ true → OpenedFrom line.now additional.now (text_in 64 4 line.now) }
 {
-    let mut ciphertext = [0u8; 64];
-    let count = read_octets(field(line, CIPHERTEXT), &mut ciphertext);
-    let ciphertext = front(&ciphertext, count);
+    let mut room = [0u8; 64];
+    let ciphertext = read_field(line, CIPHERTEXT, &mut room);
     is_opened_by_octets(line, additional, ciphertext)
         & is_checked_by_words(line, additional, ciphertext)
         & is_decrypted_by_words(line, ciphertext)
@@ -57,7 +45,5 @@ fn is_opened_with(line: &[u8], additional: &[u8]) -> bool
 pub fn is_opened(line: &[u8]) -> bool
     ensures { result ≡ true → OpenedAs line.now }
 {
-    let mut additional = [0u8; 96];
-    let count = read_octets(field(line, ADDITIONAL), &mut additional);
-    is_opened_with(line, front(&additional, count))
+    is_opened_with(line, read_field(line, ADDITIONAL, &mut [0; 96]))
 }

@@ -4,16 +4,14 @@ ghost use Rattle.vector_lines.specs.Spelled.{text_in};
 ghost use Rattle.gcm_entries.specs.Entry.{Published, SealedFrom, SealedAs};
 
 use crate::entries::{ADDITIONAL, CIPHERTEXT, PLAINTEXT, TAG, iv};
-use lines::{field, front, read_octets};
-use vector_lines::{is_field, key};
+use lines::front;
+use vector_lines::{is_field, key, read_field};
 
 // Whether the ciphertext and the tag are the published ones.
-fn is_published(line: &[u8], ciphertext: &[u8], sealed: gcm::Sealed) -> bool
+fn is_published(line: &[u8], ciphertext: &[u8], sealed: Result<[u8; 16], gcm::Refusal>) -> bool
     ensures { result ≡ true → Published line.now ciphertext.now sealed }
 {
-    let answer = sealed.answer;
-    let tag = sealed.tag;
-    let gcm::Answer::Done = answer else {
+    let Ok(tag) = sealed else {
         return false;
     };
     is_field(line, CIPHERTEXT, ciphertext) & is_field(line, TAG, &tag)
@@ -38,9 +36,8 @@ fn is_sealed_by_words(line: &[u8], additional: &[u8], plain: &[u8]) -> bool {
 fn is_sealed_with(line: &[u8], additional: &[u8]) -> bool
     ensures { result ≡ true → SealedFrom line.now additional.now (text_in 64 2 line.now) }
 {
-    let mut plain = [0u8; 64];
-    let count = read_octets(field(line, PLAINTEXT), &mut plain);
-    let plain = front(&plain, count);
+    let mut room = [0u8; 64];
+    let plain = read_field(line, PLAINTEXT, &mut room);
     is_sealed_by_octets(line, additional, plain) & is_sealed_by_words(line, additional, plain)
 }
 
@@ -48,7 +45,5 @@ fn is_sealed_with(line: &[u8], additional: &[u8]) -> bool
 pub fn is_sealed(line: &[u8]) -> bool
     ensures { result ≡ true → SealedAs line.now }
 {
-    let mut additional = [0u8; 96];
-    let count = read_octets(field(line, ADDITIONAL), &mut additional);
-    is_sealed_with(line, front(&additional, count))
+    is_sealed_with(line, read_field(line, ADDITIONAL, &mut [0; 96]))
 }

@@ -38,24 +38,10 @@ fn sums(stream: [u8; 16], src: &[u8], at: usize) -> [u8; 16]
     ensures { result ≡ xors 16 (drop at src.now) stream }
 {
     let mut out = [0u8; 16];
-    let mut j: usize = 0;
-    while j < 16 {
+    for j in 0..16 {
         out[j] = src[at + j] ^ stream[j];
-        j += 1;
     }
     out
-}
-
-// A block to a place of out.
-fn put_block(block: [u8; 16], at: usize, out: &mut [u8])
-    requires { at + 16 ≤ length out.old }
-    ensures { out.new ≡ paste out.old at block 16 }
-{
-    let mut j: usize = 0;
-    while j < 16 {
-        out[at + j] = block[j];
-        j += 1;
-    }
 }
 
 // The n octets of src from a place on, each added to one of the stream, to the same places of out.
@@ -63,10 +49,8 @@ fn add_octets(stream: [u8; 16], src: &[u8], at: usize, n: usize, out: &mut [u8])
     requires { (n ≤ 16) × (at + n ≤ length src.now) × (length src.now ≤ length out.old) }
     ensures { out.new ≡ paste out.old at (xors 16 (drop at src.now) stream) n }
 {
-    let mut j: usize = 0;
-    while j < n {
+    for j in 0..n {
         out[at + j] = src[at + j] ^ stream[j];
-        j += 1;
     }
 }
 
@@ -78,7 +62,7 @@ fn add_stream(stream: [u8; 16], src: &[u8], at: usize, out: &mut [u8]) -> usize
 {
     let n = src.len() - at;
     if 16 <= n {
-        put_block(sums(stream, src, at), at, out);
+        out[at..at + 16].copy_from_slice(&sums(stream, src, at));
         return 16;
     }
     add_octets(stream, src, at, n, out);
@@ -95,6 +79,7 @@ pub fn apply(tables: &[u32], expanded: &[u8; 240], icb: Block, src: &[u8], out: 
     }
     let mut cb = icb;
     let mut at: usize = 0;
+    // No `for`: how far a turn goes is what `add_stream` answers.
     while at < src.len() {
         at += add_stream(encipher(tables, expanded, cb), src, at, out);
         cb = increment(cb);

@@ -1,13 +1,13 @@
 -- GHASH over a string that is made of parts: part by part, each filled with zeros to whole blocks.
 -- Assumes nothing.
 use mathlib.Core.Path.{◌≡◌, refl, sym, ap, ap₂, ◌∙◌}
-use mathlib.Core.List.{List, [], ◌∷◌, ◌++◌, append_assoc}
-use Prim.Native.Nat.{ℕ, zero, suc, ◌+◌, ◌-◌, ◌*◌, ◌/◌, ◌%◌, ◌^◌, ◌≤◌, ◌<◌}
+use mathlib.Core.List.{List, [], ◌∷◌, ◌++◌, append_assoc, append-nil}
+use Prim.Native.Nat.{ℕ, zero, suc, ◌+◌, ◌-◌, ◌*◌, ◌/◌, ◌%◌, ◌^◌, ◌≤◌, ◌<◌, min}
 use native.Mathlib.Nat.{zero-add, suc-add, mod-lt, div-add-mod'}
 use native.Mathlib.Omega.{arith}
 use lib.Dec.{lit<}
 use lib.ListN.{length, drop, replicate, length-append, length-drop, length-replicate, get_or-append}
-use lib.Seq.{drop-drop, drop-append-le, get_or-drop}
+use lib.Seq.{drop-append-le, get_or-drop}
 use Rattle.octets.specs.Lists.{octet}
 use Rattle.octets.specs.Numbers.{number, bytes}
 use Rattle.octets.specs.Xor.{◌⊕◌}
@@ -16,26 +16,6 @@ use Rattle.block.specs.Lengths.{len, blocks}
 use Rattle.ghash.specs.Product.{◌•◌}
 use Rattle.ghash.specs.Ghash.{ghash_from, ghash}
 use Rattle.ghash.specs.Input.{fill, hash_input}
-
--- the blocks left, counted down
-hash_step : (h y at : ℕ) (s : List ℕ) → at < length s
-    → ghash_from h (blocks (length s - at)) y (drop at s)
-    ≡ ghash_from h (blocks (length s - (at + 16))) ((y ⊕ number 16 (drop at s)) • h) (drop (at + 16) s)
-unfolding ghash_from
-hash_step h y at s l =
-    let e : blocks (length s - at) ≡ suc (blocks (length s - (at + 16))) = omega arith in
-    ap (λ (n : ℕ). ghash_from h n y (drop at s)) e
-    ∙ ap (ghash_from h (blocks (length s - (at + 16))) ((y ⊕ number 16 (drop at s)) • h)) (drop-drop 16 at s)
-
-pub hash_none : (h y at : ℕ) (s : List ℕ) → length s ≤ at → ghash_from h (blocks (length s - at)) y (drop at s) ≡ y
-unfolding ghash_from
-hash_none h y at s l =
-    let e : blocks (length s - at) ≡ 0 = omega arith in
-    rw e
-
-pub hash_more : (h y at l x z p : ℕ) (s : List ℕ) → at < length s → ghash_from h (blocks (length s - at)) y (drop at s) ≡ p
-    → l ≡ number 16 (drop at s) → x ≡ y ⊕ l → z ≡ x • h → ghash_from h (blocks (length s - (at + 16))) z (drop (at + 16) s) ≡ p
-hash_more h y at l x z p s b e el ex ez = cc (hash_step h y at s b)
 
 -- lists whose octets agree at every place, past their ends too
 hash_same : (h n y : ℕ) (s t : List ℕ) → ((i : ℕ) → octet s i ≡ octet t i) → ghash_from h n y s ≡ ghash_from h n y t
@@ -58,6 +38,30 @@ hash_append h (suc n) m y s t l =
     (number_same 16 (s ++ t) s (λ i k. get_or-append s t 0 i (omega arith)))
     (drop-append-le 16 s t whole)
     ∙ hash_append h n m ((y ⊕ number 16 s) • h) (drop 16 s) t left
+
+-- a first piece x, which is a block or else all that is left, and the rest t
+hash_piece : (h y : ℕ) (x t : List ℕ) → 0 < length (x ++ t) → length x ≡ min 16 (length (x ++ t))
+    → ghash_from h (blocks (length (x ++ t))) y (x ++ t) ≡ ghash_from h (blocks (length t)) ((y ⊕ number 16 x) • h) t
+unfolding ghash_from
+hash_piece h y x [] some e =
+    let same : x ++ [] ≡ x = append-nil x in
+    let one : blocks (length (x ++ [])) ≡ 1 = omega (arith, ap length same) in
+    rw (one, same)
+hash_piece h y x (o ∷ t) some e =
+    let long : length (x ++ (o ∷ t)) ≡ length x + length (o ∷ t) = length-append x (o ∷ t) in
+    let whole : length x ≡ 16 * 1 = omega arith in
+    let count : blocks (length (x ++ (o ∷ t))) ≡ 1 + blocks (length (o ∷ t)) = omega arith in
+    rw count (hash_append h 1 (blocks (length (o ∷ t))) y x (o ∷ t) whole)
+
+pub hash_more : (h y b a z p : ℕ) (s x t : List ℕ) → (s ≡ x ++ t) × (length x ≡ min 16 (length s)) × (0 < length s)
+    → ghash_from h (blocks (length s)) y s ≡ p → b ≡ number 16 (drop 0 x) → a ≡ y ⊕ b → z ≡ a • h → ghash_from h (blocks (length t)) z t ≡ p
+hash_more h y b a z p s x t cut e eb ea ez =
+    let long : length s ≡ length (x ++ t) = ap length cut.0 in
+    cc (hash_piece h y x t (omega arith) (omega arith))
+
+pub hash_none : (h y : ℕ) (s : List ℕ) → length s ≡ 0 → ghash_from h (blocks (length s)) y s ≡ y
+unfolding ghash_from
+hash_none h y s e = rw e
 
 -- zeros behind a list change no octet
 octet-zeros : (k i : ℕ) → octet (replicate k 0) i ≡ 0

@@ -19,10 +19,8 @@ fn hash_onto(y: Block, s: &[u8], t: &[u64; 32]) -> Block
     ensures { (h : ℕ) → IsTableOf h t.now → value result ≡ ghash_from h (blocks (length s.now)) (value y) s.now }
 {
     let mut z = y;
-    let mut at: usize = 0;
-    while at < s.len() {
-        z = multiply(xor(z, load(s, at)), t);
-        at += 16;
+    for piece in s.chunks(16) {
+        z = multiply(xor(z, load(piece, 0)), t);
     }
     z
 }

@@ -48,12 +48,10 @@ pub(crate) fn table(h: Block) -> [u64; 32]
     let third = next_v(second);
     let fourth = next_v(third);
     let mut t = [0u64; 32];
-    let mut n: usize = 0;
-    while n < 16 {
+    for n in 0..16 {
         let entry = four_rounds(n as u64, h, second, third, fourth);
         t[n * 2] = entry.hi;
         t[n * 2 + 1] = entry.lo;
-        n += 1;
     }
     t
 }
@@ -140,6 +138,7 @@ fn four_more(z: Unreduced, x: Block, k: u64, t: &[u64; 32]) -> Unreduced
 }
 
 // A block moved down 32 places, with 32 other bits at its top.
+// Not one function with `moved_down`: for any number of places it would take masks and shifts by 64 less them, where these divide by numbers.
 fn moved_far_down(top: u64, z: Block) -> Block
     requires { top < 2 ^ 32 }
     ensures { value result ≡ value z / 2 ^ 32 ⊕ top * 2 ^ 96 }
@@ -181,13 +180,9 @@ pub(crate) fn multiply(x: Block, t: &[u64; 32]) -> Block
         high: Block { hi: 0, lo: 0 },
         low: Block { hi: 0, lo: 0 },
     };
-    let mut k: u64 = 0;
-    while k < 32 {
-        let low_more = four_more(lower, x, k, t);
-        lower = low_more;
-        let high_more = four_more(upper, above, k, t);
-        upper = high_more;
-        k += 4;
+    for k in (0..32).step_by(4) {
+        lower = four_more(lower, x, k, t);
+        upper = four_more(upper, above, k, t);
     }
     let z = joined(upper, lower);
     let high = z.high;

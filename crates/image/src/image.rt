@@ -1,6 +1,7 @@
 // Document 01, 'The image', and document 02, request 9: where its parts stand, and what is allowed.
 ghost use Rattle.std.specs.Prelude.{◌≡◌, true, not, ◌&&◌, ◌||◌, ◌+◌, ◌≤◌, eqb, length};
 ghost use Rattle.octets.specs.Lists.{part, all};
+ghost use Rattle.octets.specs.Numbers.{number_at};
 ghost use Rattle.bodies.specs.Body.{body_in, state_of, operational, key_id_of, body_ok};
 ghost use Rattle.bodies.specs.Layout.{key_length, Lawful};
 ghost use Rattle.keys.specs.Keys.{active, key_in_state};
@@ -173,31 +174,23 @@ pub fn laid_out(image: &[u8]) -> bool
     version_ok(version_of(image)) & (count_of(image) <= 32) & (image.len() == image_size(image))
 }
 
-// Of an entry whose octets are all there: its SPI, and its rule. The SPI before it and the place of its body are given.
-fn spi_inside(image: &[u8], index: u8) -> u16
-    requires { entry_place index + 4 ≤ length image.now }
-    ensures { result ≡ spi_of image.now index }
+// Two octets that are all there.
+fn two_inside(image: &[u8], from: usize) -> u16
+    requires { from + 2 ≤ length image.now }
+    ensures { result ≡ number_at from 2 image.now }
 {
-    let from = entry_place(index);
     let end = from + 2;
     two_at(&image[from..end], 0)
 }
 
-fn position_inside(image: &[u8], index: u8) -> u16
-    requires { entry_place index + 4 ≤ length image.now }
-    ensures { result ≡ position_of image.now index }
-{
-    let from = entry_place(index) + 2;
-    let end = from + 2;
-    two_at(&image[from..end], 0)
-}
-
+// The rule of an entry whose octets are all there. The SPI before it and the place of its body are given.
 fn entry_ok(image: &[u8], index: u8, before: u16, at: u16) -> bool
     requires { (entry_place index + 4 ≤ length image.now) × (before ≡ spi_before image.now index) × (at ≡ body_at image.now index) }
     ensures { result ≡ entry_ok image.now index }
 {
-    let spi = spi_inside(image, index);
-    (1 <= spi) & (spi <= 65534) & (before < spi) & (position_inside(image, index) == at)
+    let spi = two_inside(image, entry_place(index));
+    let position = two_inside(image, entry_place(index) + 2);
+    (1 <= spi) & (spi <= 65534) & (before < spi) & (position == at)
 }
 
 // Every entry with its body, of an image that is laid out. All are tested, also behind one that breaks a rule.
@@ -210,12 +203,10 @@ fn entries_ok(image: &[u8]) -> bool
     let count = count_of(image);
     let mut ok = true;
     let mut before: u16 = 0;
-    let mut i: u8 = 0;
-    while i < count {
+    for i in 0..count {
         let at = body_place(layout, count, i);
         ok = ok & (entry_ok(image, i, before, at) & body_inside_ok(image, version, at));
-        before = spi_inside(image, i);
-        i += 1;
+        before = two_inside(image, entry_place(i));
     }
     ok
 }
@@ -244,13 +235,9 @@ fn bodies_keyed(image: &[u8]) -> bool
     let count = count_of(image);
     let part = part_at(image);
     let keys = key_count(image);
-    let mut ok = true;
-    let mut i: u8 = 0;
-    while i < count {
-        ok = ok & keyed_ok(image, version, body_place(layout, count, i), part, keys);
-        i += 1;
-    }
-    ok
+    (0..count).fold(true, |ok, i| {
+        ok & keyed_ok(image, version, body_place(layout, count, i), part, keys)
+    })
 }
 
 // What a version with a key part asks for.

@@ -1,35 +1,37 @@
 -- How many octets an inventory has: two for how many keys it tells of, and three for each; and its reply in two pieces, as the code writes
 -- it, what stands before the keys and the keys.
 -- Assumes nothing.
-use mathlib.Core.Path.{◌≡◌, refl, ap, sym, ◌∙◌}
+use mathlib.Core.Path.{◌≡◌, refl, ap, ap₂, sym, ◌∙◌}
 use mathlib.Core.Bool.{Bool, true, false, cond}
 use mathlib.Core.List.{List, [], ◌∷◌, ◌++◌, append_assoc}
 use Prim.Native.Nat.{ℕ, zero, suc, ◌+◌, ◌*◌, ◌/◌, ◌%◌, ◌≤◌, ◌<◌}
-use native.Mathlib.Nat.{add-zero, div-one}
-use native.Mathlib.Numerals.{add-one}
+use native.Mathlib.Nat.{div-one}
 use native.Mathlib.Omega.{arith}
 use lib.ListN.{length, length-append}
+use Rattle.std.specs.List.{range_with_len, filter}
+use Rattle.std.proofs.lemmas.List.Elements.{filter-append}
 use Rattle.octets.specs.Numbers.{bytes}
 use Rattle.octets.proofs.Numbers.{length-bytes}
 use Rattle.writing.specs.Text.{end_to_end}
 use Rattle.command_form.specs.Form.{reply_tag, reply_to}
 use Rattle.keys.specs.Keys.{most_keys}
+use Rattle.keys.proofs.Loops.{range_more}
 use Rattle.inventory.specs.Inventory.{between, passing, told_of, told_between, inventory}
 
 -- ---- how many numbers pass a test
 
-pub passing-none : (test : ℕ → Bool) → passing 0 test ≡ 0
+pub total-passing : (n : ℕ) (test : ℕ → Bool) → length (filter test (range_with_len 0 n)) ≡ passing n test
 unfolding passing
-passing-none test = refl
-
--- one more that passes, and one that does not
-pub passing_hit : (total n : ℕ) (test : ℕ → Bool) → total ≡ passing n test → test n ≡ true → total + 1 ≡ passing (n + 1) test
-unfolding passing
-passing_hit total n test e t = rw (add-one n, t) (ap (λ (x : ℕ). x + 1) e)
-
-pub passing_miss : (total n : ℕ) (test : ℕ → Bool) → total ≡ passing n test → test n ≡ false → total ≡ passing (n + 1) test
-unfolding passing
-passing_miss total n test e t = rw (add-one n, t, add-zero) e
+total-passing zero test = refl
+total-passing (suc n) test =
+    ap (λ ks. length (filter test ks)) (range_more n)
+    ∙ ap length (filter-append test (range_with_len 0 n) (n ∷ []))
+    ∙ length-append (filter test (range_with_len 0 n)) (filter test (n ∷ []))
+    ∙ ap₂ ◌+◌ (total-passing n test) (one (test n))
+  where
+    one : (t : Bool) → length (cond t (n ∷ []) []) ≡ cond t 1 0
+    one true = refl
+    one false = refl
 
 one-most : (t : Bool) → cond t 1 0 ≤ 1
 one-most true = omega arith

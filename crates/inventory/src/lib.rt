@@ -33,15 +33,9 @@ fn is_between(image: &[u8], at: u16, first: u16, last: u16, index: u8) -> bool
 fn total_between(image: &[u8], at: u16, count: u8, first: u16, last: u16) -> u8
     ensures { result ≡ passing count (between image.now at first last) }
 {
-    let mut total: u8 = 0;
-    let mut k: u8 = 0;
-    while k < count {
-        if is_between(image, at, first, last, k) {
-            total += 1;
-        }
-        k += 1;
-    }
-    total
+    (0..count)
+        .filter(|k| is_between(image, at, first, last, *k))
+        .count() as u8
 }
 
 // The octets of the reply.
@@ -56,25 +50,16 @@ fn opening(total: u8) -> [u8; 5]
     ensures { result ≡ reply_tag 0x07 ∷ (bytes 2 (2 + 3 * total) ++ bytes 2 total) }
 {
     let length = (TOTAL + TOLD * (total as usize)) as u16;
-    [
-        128 + TAG,
-        (length / 256 % 256) as u8,
-        (length % 256) as u8,
-        0,
-        total,
-    ]
+    let [high, low] = length.to_be_bytes();
+    [128 + TAG, high, low, 0, total]
 }
 
 // ID and state of a key.
 fn told_of(image: &[u8], at: u16, index: u8) -> [u8; 3]
     ensures { result ≡ told_of image.now at index }
 {
-    let id = key_id_at(image, at, index);
-    [
-        (id / 256 % 256) as u8,
-        (id % 256) as u8,
-        key_state_at(image, at, index),
-    ]
+    let [high, low] = key_id_at(image, at, index).to_be_bytes();
+    [high, low, key_state_at(image, at, index)]
 }
 
 // The same put behind what stands there, and nothing of a key whose ID is not between.
@@ -110,10 +95,8 @@ fn put_keys(
     ensures { Put out.old place (end_to_end count (told_between image.now at first last)) out.new result }
 {
     let mut behind = place;
-    let mut k: u8 = 0;
-    while k < count {
+    for k in 0..count {
         behind = put_told(out, behind, image, at, first, last, k);
-        k += 1;
     }
     behind
 }

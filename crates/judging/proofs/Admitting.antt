@@ -2,10 +2,11 @@
 -- the frame is admitted.
 -- Assumes nothing.
 use Prim.Native.Nat.{ℕ, ◌<◌}
-use mathlib.Core.Path.{◌≡◌, sym, ap, ◌∙◌}
+use mathlib.Core.Path.{◌≡◌, sym}
 use mathlib.Core.Bool.{Bool, true, false}
 use mathlib.Core.List.{List, []}
 use native.Mathlib.Omega.{arith}
+use Rattle.std.specs.Prelude.{Some, None}
 use Rattle.kinds.specs.Kinds.{framed}
 use Rattle.kinds.specs.declared.framing.Framing.{Framing}
 use Rattle.frame.specs.Closing.{field_ok}
@@ -14,17 +15,16 @@ use Rattle.image.specs.Image.{valid_image}
 use Rattle.association.specs.Association.{matching}
 use Rattle.numbers.specs.Numbers.{agrees}
 use Rattle.association.specs.Search.{entry_for}
-use Rattle.association.specs.declared.search.Found.TheVariants as found
 use Rattle.association.specs.declared.search.Wanted.{Wanted}
-use Rattle.judging.specs.Answers.{reported, refusal, first}
+use Rattle.judging.specs.Answers.{number_of, first}
 use Rattle.judging.specs.Replies.{seen, front_tests}
 use Rattle.judging.specs.Said.{Said, kind_said, no_desk}
 use Rattle.judging.specs.Verdicts.{Refuses, Admits}
-use Rattle.judging.specs.declared.answers.Answer.{Answer}
+use Rattle.judging.specs.declared.answers.Refusal.{Refusal}
 use Rattle.judging.proofs.Answered.{fronted}
 
-pub refuses : (a : Answer) (m n : ℕ) → reported a ≡ refusal n → 0 < n → m ≡ n → Refuses a m
-refuses a m n r some e = record { answer = r ∙ ap refusal (sym e); some = omega arith }
+pub refuses : (r : Refusal) (m : ℕ) → 0 < number_of r → m ≡ number_of r → Refuses r m
+refuses r m some e = record { answer = sym e; some = omega arith }
 
 -- ---- the tests that come first, one by one
 
@@ -32,15 +32,7 @@ module _ (image last : List ℕ) (w : Wanted) (said : Said) (frame : List ℕ) (
   abbrev front : ℕ
   front = first (front_tests (seen image last w) said frame secured)
 
-  pub by_1 : valid_image image ≡ false → front ≡ 1
-  unfolding seen first
-  by_1 v = rw v
-
   module _ (v : valid_image image ≡ true) where
-    pub by_2 : agrees image last ≡ false → front ≡ 2
-    unfolding seen first
-    by_2 a = rw (v, a)
-
     module _ (a : agrees image last ≡ true) where
       pub by_19 : no_desk said.desk ≡ true → front ≡ 19
       unfolding seen first
@@ -57,11 +49,11 @@ module _ (image last : List ℕ) (w : Wanted) (said : Said) (frame : List ℕ) (
           by_12 d = rw (v, a, s, o, d)
 
           module _ (d : field_ok (kind_said said) frame ≡ true) where
-            pub by_4 : entry_for image w ≡ found.Nothing → front ≡ 4
+            pub by_4 : entry_for image w ≡ None → front ≡ 4
             unfolding seen matching first
             by_4 n = rw (v, a, s, o, d, n)
 
-            pub admits : (framing : Framing) (e : ℕ) → kind_said said ≡ framed framing → entry_for image w ≡ found.At e
+            pub admits : (framing : Framing) (e : ℕ) → kind_said said ≡ framed framing → entry_for image w ≡ Some e
                 → Admits image last w said secured frame framing e
             unfolding seen matching first
             admits framing e n f = record { answer = rw (v, a, s, o, d, f); kinds = sym n; entry = f }

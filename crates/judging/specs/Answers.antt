@@ -1,12 +1,43 @@
 -- Document 01, 'What comes back', and document 02, requests 4, 5, 9 and 10: the answers and their numbers, and the first of several refusals that
 -- applies.
 -- Assumes nothing.
-use Rattle.std.specs.Prelude.{ℕ, Bool, cond, List, [], ◌∷◌}
-use Rattle.judging.specs.declared.answers.Answer.{Answer}
-use Rattle.judging.specs.declared.answers.Answer.TheVariants as answer
+use Rattle.std.specs.Prelude.{ℕ, Bool, cond, List, [], ◌∷◌, Result, Ok, Err}
+use Rattle.numbers.specs.declared.numbers.Unfit.{Unfit}
+use Rattle.numbers.specs.declared.numbers.Unfit.TheVariants as unfit
+use Rattle.judging.specs.declared.answers.Done.{Done}
+use Rattle.judging.specs.declared.answers.Refusal.{Refusal}
+use Rattle.judging.specs.declared.answers.Refusal.TheVariants as refused
 use Rattle.judging.specs.declared.answers.Reported as code
 
 -- ---- the table: each answer's number, and what it reports of a result
+
+abbrev pub Answer : Type 0
+Answer = Result Done Refusal
+
+abbrev pub number_of : Refusal → ℕ
+number_of refused.BadImage = 1
+number_of refused.BadMarks = 2
+number_of refused.BadFrame = 3
+number_of refused.NoEntry = 4
+number_of refused.TooShort = 5
+number_of refused.NoRoom = 6
+number_of refused.WrongMac = 7
+number_of refused.OutsideWindow = 8
+number_of refused.NumbersSpent = 10
+number_of refused.TooLong = 11
+number_of refused.WrongCheckField = 12
+number_of refused.BadCommand = 13
+number_of refused.UnknownSpi = 14
+number_of refused.WrongState = 15
+number_of refused.BadValue = 16
+number_of refused.UnknownKey = 17
+number_of refused.WrongKeyState = 18
+number_of refused.WrongDesk = 19
+
+-- an image and numbers that are not fit for a call refuse it
+abbrev pub refusal_of : Unfit → Refusal
+refusal_of unfit.BadImage = refused.BadImage
+refusal_of unfit.BadMarks = refused.BadMarks
 
 abbrev pub Reported : Type 0
 Reported = code.Reported
@@ -19,25 +50,8 @@ abbrev pub granted : ℕ → ℕ → Reported
 granted length stores = record { number = 0; length = length; stores = stores }
 
 abbrev pub reported : Answer → Reported
-reported (answer.Done length stores) = granted length stores
-reported answer.BadImage = refusal 1
-reported answer.BadMarks = refusal 2
-reported answer.BadFrame = refusal 3
-reported answer.NoEntry = refusal 4
-reported answer.TooShort = refusal 5
-reported answer.NoRoom = refusal 6
-reported answer.WrongMac = refusal 7
-reported answer.OutsideWindow = refusal 8
-reported answer.NumbersSpent = refusal 10
-reported answer.TooLong = refusal 11
-reported answer.WrongCheckField = refusal 12
-reported answer.BadCommand = refusal 13
-reported answer.UnknownSpi = refusal 14
-reported answer.WrongState = refusal 15
-reported answer.BadValue = refusal 16
-reported answer.UnknownKey = refusal 17
-reported answer.WrongKeyState = refusal 18
-reported answer.WrongDesk = refusal 19
+reported (Ok done) = granted done.length done.stores
+reported (Err r) = refusal (number_of r)
 
 -- ---- the first that applies is given and no other; where none applies, the answer is 0
 

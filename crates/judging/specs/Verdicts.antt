@@ -1,7 +1,7 @@
--- What the judging functions find, for their contracts: a refusal, the framing and the entry of a frame that is admitted, and a verdict. No
+-- What the judging functions find, for their contracts: a refusal, the framing and the entry of a frame that is admitted, and a grant. No
 -- definition of a call cites this file, and no promise does.
 -- Assumes nothing.
-use Rattle.std.specs.Prelude.{ℕ, ◌+◌, ◌<◌, ◌≡◌, Bool, List}
+use Rattle.std.specs.Prelude.{ℕ, ◌+◌, ◌<◌, ◌≡◌, Bool, List, Some, Result, Ok, Err}
 use Rattle.kinds.specs.Kinds.{Kind, framed}
 use Rattle.kinds.specs.declared.framing.Framing.{Framing}
 use Rattle.marks.specs.Stores.{stores_of}
@@ -9,21 +9,17 @@ use Rattle.marks.specs.declared.plans.Store.{Store}
 use Rattle.association.specs.Search.{entry_for}
 use Rattle.numbers.specs.Stores.{stores_for}
 use Rattle.association.specs.declared.held.Held.{Held}
-use Rattle.association.specs.declared.search.Found.TheVariants as found
 use Rattle.association.specs.declared.search.Wanted.{Wanted}
 use Rattle.protection.specs.Protection.{secured_length, number_in, mac_right, clear_length}
-use Rattle.judging.specs.Answers.{reported, refusal, first}
+use Rattle.judging.specs.Answers.{number_of, first}
 use Rattle.judging.specs.Replies.{seen, Reply, front_tests, sending_tests, receiving_tests}
 use Rattle.judging.specs.Said.{Said, kind_said}
-use Rattle.judging.specs.declared.answers.Answer.{Answer}
+use Rattle.judging.specs.declared.answers.Refusal.{Refusal}
 use Rattle.judging.specs.declared.verdict.Admission.{Admission}
-use Rattle.judging.specs.declared.verdict.Admission.TheVariants as admission
 use Rattle.judging.specs.declared.verdict.Grant.{Grant}
-use Rattle.judging.specs.declared.verdict.Verdict.{Verdict}
-use Rattle.judging.specs.declared.verdict.Verdict.TheVariants as verdict
 
-pub record Refuses (a : Answer) (n : ℕ) : Type 0 where
-  pub answer : reported a ≡ refusal n
+pub record Refuses (r : Refusal) (n : ℕ) : Type 0 where
+  pub answer : number_of r ≡ n
   pub some : 0 < n
 
 -- ---- past the tests that come first: the frame's framing, and the entry that it matches
@@ -31,14 +27,14 @@ pub record Refuses (a : Answer) (n : ℕ) : Type 0 where
 pub record Admits (image last : List ℕ) (w : Wanted) (said : Said) (secured : Bool) (frame : List ℕ) (framing : Framing) (e : ℕ) : Type 0 where
   pub answer : first (front_tests (seen image last w) said frame secured) ≡ 0
   pub kinds : framed framing ≡ kind_said said
-  pub entry : entry_for image w ≡ found.At e
+  pub entry : entry_for image w ≡ Some e
 
-abbrev pub Admitted : Admission → List ℕ → List ℕ → Wanted → Said → Bool → List ℕ → Type 0
-Admitted (admission.To framing e) image last w said secured frame = Admits image last w said secured frame framing e
-Admitted (admission.Refused a) image last w said secured frame =
-    Refuses a (first (front_tests (seen image last w) said frame secured))
+abbrev pub Admitted : Result Admission Refusal → List ℕ → List ℕ → Wanted → Said → Bool → List ℕ → Type 0
+Admitted (Ok a) image last w said secured frame = Admits image last w said secured frame a.framing a.entry
+Admitted (Err r) image last w said secured frame =
+    Refuses r (first (front_tests (seen image last w) said frame secured))
 
--- ---- a verdict: the reply but for its result
+-- ---- a call judged: the reply but for its result
 
 pub record Judgement : Type 0 where
   pub answer : ℕ
@@ -77,6 +73,6 @@ pub record Grants (g : Grant) (j : Judgement) : Type 0 where
   pub stores : stores_of g.plan ≡ j.stores
   pub size : g.size ≡ j.size
 
-abbrev pub Judged : Verdict → Judgement → Type 0
-Judged (verdict.Granted g) j = Grants g j
-Judged (verdict.Refused a) j = Refuses a j.answer
+abbrev pub Judged : Result Grant Refusal → Judgement → Type 0
+Judged (Ok g) j = Grants g j
+Judged (Err r) j = Refuses r j.answer

@@ -1,30 +1,61 @@
-// Document 01, 'What comes back', and document 02, requests 4, 5, 9 and 10: one variant for each number of the papers. Done reports the length of
-// the result and the count of stores.
+// Document 01, 'What comes back', and document 02, requests 4, 5, 9 and 10: a call is done or refused. Each refusal has its number in the
+// papers' table; answer 0 is that of a call that is done.
 ghost use Rattle.std.specs.Prelude.{◌≡◌};
-ghost use Rattle.judging.specs.Answers.{reported, refusal};
+ghost use Rattle.judging.specs.Answers.{reported, number_of, refusal_of};
 
+use numbers::Unfit;
+
+// What a call that is done tells: the length of the result and the count of stores.
 #[derive(Clone, Copy)]
-pub enum Answer {
-    Done(usize, u32),
-    BadImage,
-    BadMarks,
-    BadFrame,
-    NoEntry,
-    TooShort,
-    NoRoom,
-    WrongMac,
-    OutsideWindow,
-    NumbersSpent,
-    TooLong,
-    WrongCheckField,
-    BadCommand,
-    UnknownSpi,
-    WrongState,
-    BadValue,
-    UnknownKey,
-    WrongKeyState,
-    WrongDesk,
+pub struct Done {
+    pub length: usize,
+    pub stores: u32,
 }
+
+// The papers have no refusal 9.
+#[derive(Clone, Copy)]
+pub enum Refusal {
+    BadImage = 1,
+    BadMarks = 2,
+    BadFrame = 3,
+    NoEntry = 4,
+    TooShort = 5,
+    NoRoom = 6,
+    WrongMac = 7,
+    OutsideWindow = 8,
+    NumbersSpent = 10,
+    TooLong = 11,
+    WrongCheckField = 12,
+    BadCommand = 13,
+    UnknownSpi = 14,
+    WrongState = 15,
+    BadValue = 16,
+    UnknownKey = 17,
+    WrongKeyState = 18,
+    WrongDesk = 19,
+}
+
+impl Refusal {
+    // The number in the papers' table.
+    pub fn number(self) -> u8
+        ensures { result ≡ number_of self }
+    {
+        self as u8
+    }
+}
+
+impl From<Unfit> for Refusal {
+    ghost from_gives = { λ u r. r ≡ refusal_of u };
+
+    fn from(unfit: Unfit) -> Refusal {
+        match unfit {
+            Unfit::BadImage => Refusal::BadImage,
+            Unfit::BadMarks => Refusal::BadMarks,
+        }
+    }
+}
+
+pub type Answer = Result<Done, Refusal>;
 
 // What a call reports: the number of its answer in the papers' table, the length of the result and the count of stores.
 #[derive(Clone, Copy)]
@@ -34,42 +65,19 @@ pub struct Reported {
     pub stores: u32,
 }
 
-fn refusal(number: u8) -> Reported
-    ensures { result ≡ refusal number }
-{
-    Reported {
-        number,
-        length: 0,
-        stores: 0,
-    }
-}
-
 pub fn report_of(answer: Answer) -> Reported
     ensures { result ≡ reported answer }
 {
     match answer {
-        Answer::Done(length, stores) => Reported {
+        Ok(done) => Reported {
             number: 0,
-            length,
-            stores,
+            length: done.length,
+            stores: done.stores,
         },
-        Answer::BadImage => refusal(1),
-        Answer::BadMarks => refusal(2),
-        Answer::BadFrame => refusal(3),
-        Answer::NoEntry => refusal(4),
-        Answer::TooShort => refusal(5),
-        Answer::NoRoom => refusal(6),
-        Answer::WrongMac => refusal(7),
-        Answer::OutsideWindow => refusal(8),
-        Answer::NumbersSpent => refusal(10),
-        Answer::TooLong => refusal(11),
-        Answer::WrongCheckField => refusal(12),
-        Answer::BadCommand => refusal(13),
-        Answer::UnknownSpi => refusal(14),
-        Answer::WrongState => refusal(15),
-        Answer::BadValue => refusal(16),
-        Answer::UnknownKey => refusal(17),
-        Answer::WrongKeyState => refusal(18),
-        Answer::WrongDesk => refusal(19),
+        Err(refusal) => Reported {
+            number: refusal.number(),
+            length: 0,
+            stores: 0,
+        },
     }
 }

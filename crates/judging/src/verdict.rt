@@ -1,13 +1,12 @@
-// A call is decided, and then carried out: a verdict changes nothing, and what it grants is stored first, then written, then returned.
-use crate::answers::Answer;
+// A call is decided, and then carried out: deciding changes nothing, and what is granted is stored first, then written, then returned.
 use kinds::Framing;
 use marks::Plan;
 
-// Past the tests that come first: the framing of the frame and the entry that it matches, or the first refusal.
+// Past the tests that come first: the framing of the frame and the entry that it matches.
 #[derive(Clone, Copy)]
-pub enum Admission {
-    To(Framing, u8),
-    Refused(Answer),
+pub struct Admission {
+    pub framing: Framing,
+    pub entry: u8,
 }
 
 // What is used where no test refuses: the entry, its new number, the octet stores, and the octets of the result.
@@ -17,10 +16,4 @@ pub struct Grant {
     pub number: u32,
     pub plan: Plan,
     pub size: usize,
-}
-
-#[derive(Clone, Copy)]
-pub enum Verdict {
-    Granted(Grant),
-    Refused(Answer),
 }

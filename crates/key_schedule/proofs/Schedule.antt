@@ -1,14 +1,15 @@
--- The key schedule, as a loop over 240 octets meets it: after n turns the first 8 + n words are the key and n words more.
+-- The key schedule, as a loop over 240 octets meets it: before turn i the first i words are the key and i - 8 words more.
 --     scheduled_none, scheduled_more, scheduled_all     before the first turn; a turn; at the end
 -- Assumes nothing.
 use mathlib.Core.Path.{◌≡◌, ◌∙◌, refl, sym, ap, ap₂}
-use mathlib.Core.List.{List, [], ◌∷◌, ◌++◌}
-use Prim.Native.Nat.{ℕ, ◌+◌, ◌-◌, ◌*◌, ◌≤◌, ◌<◌}
-use native.Mathlib.Numerals.{add-one, towards_suc}
+use mathlib.Core.List.{List, ◌++◌}
+use Prim.Native.Nat.{ℕ, suc, ◌+◌, ◌-◌, ◌*◌, ◌≤◌, ◌<◌}
 use native.Mathlib.Omega.{arith}
-use lib.ListN.{length, take, drop, set, length-append, length-set}
-use lib.Seq.{sets, sets-eq, take_at, take_all, length-take-le, get_or-take}
-use Rattle.octets.specs.Lists.{octet, tab}
+use borrow.Rule.Slice.PartMut.{put_mid}
+use lib.ListN.{length, take, length-append, length-drop, length-take}
+use lib.Seq.{take_all, get_or-take}
+use Rattle.std.proofs.lemmas.Slice.{take-put_mid}
+use Rattle.octets.specs.Lists.{tab}
 use Rattle.octets.specs.Xor.{xors}
 use Rattle.octets.proofs.Rules.{tab_ext}
 use Rattle.key_schedule.specs.KeyExpansion.Opened.{key_expansion-is}
@@ -23,54 +24,42 @@ next_word-take : (w : List ℕ) (i : ℕ) → 8 ≤ i → next_word (take (4 * i
 unfolding next_word temp
 next_word-take w i h = rw (word-take w (4 * i) (i - 1) (omega arith), word-take w (4 * i) (i - 8) (omega arith))
 
--- the four octets of a word
-abbrev four : List ℕ → List ℕ
-four t = octet t 0 ∷ octet t 1 ∷ octet t 2 ∷ octet t 3 ∷ []
-
-four-next_word : (w : List ℕ) (i : ℕ) → four (next_word w i) ≡ next_word w i
+length-next_word : (w : List ℕ) (i : ℕ) → length (next_word w i) ≡ 4
 unfolding next_word xors tab
-four-next_word w i = refl
+length-next_word w i = refl
 
--- w with the word t stored at a place, an octet at a time
-abbrev pub with_word : List ℕ → ℕ → List ℕ → List ℕ
-with_word w at t = set (set (set (set w at (octet t 0)) (at + 1) (octet t 1)) (at + 2) (octet t 2)) (at + 3) (octet t 3)
-
-take_with_word : (w : List ℕ) (at : ℕ) (t : List ℕ) → at + 4 ≤ length w → take (at + 4) (with_word w at t) ≡ take at w ++ four t
-take_with_word w at t h =
-    let one_by_one : with_word w at t ≡ sets w at (four t) = simp towards_suc in
-    let front : length (take at w) ≡ at = length-take-le at w (omega arith) in
-    ap (take (at + 4)) (one_by_one ∙ sets-eq (four t) w at h)
-    ∙ take_at (take at w ++ four t) (drop (at + 4) w) (at + 4) (simp length-append (omega arith))
-
-pub record Scheduled (key w : List ℕ) (n : ℕ) : Type 0 where
-  pub within : n ≤ 52
+pub record Scheduled (key w : List ℕ) (i : ℕ) : Type 0 where
+  pub from : 8 ≤ i
+  pub within : i ≤ 60
   pub long : length w ≡ 240
-  pub front : take (4 * (8 + n)) w ≡ expanded_by n key
+  pub front : take (4 * i) w ≡ expanded_by (i - 8) key
 
-pub scheduled_none : {key w : List ℕ} → length w ≡ 240 → take 32 w ≡ key → Scheduled key w 0
+pub scheduled_none : {key w : List ℕ} → length w ≡ 240 → take 32 w ≡ key → Scheduled key w 8
 unfolding expanded_by
-scheduled_none l e = record { within = omega arith; long = l; front = e }
+scheduled_none l e = record { from = omega arith; within = omega arith; long = l; front = e }
 
-pub scheduled_more : (key w t : List ℕ) (n : ℕ) → n < 52 → t ≡ next_word w (8 + n) → Scheduled key w n
-    → Scheduled key (with_word w (4 * (8 + n)) t) (n + 1)
+pub scheduled_more : (key w t : List ℕ) (i n : ℕ) → n ≡ 4 → i < 60 → t ≡ next_word w i → Scheduled key w i
+    → Scheduled key (put_mid (4 * i) n w t) (i + 1)
 unfolding expanded_by
-scheduled_more key w t n h e g =
-    let at : ℕ = 4 * (8 + n) in
-    let next : 4 * (8 + (n + 1)) ≡ at + 4 = omega arith in
-    let made : four t ≡ next_word (expanded_by n key) (8 + n) =
-    ap four e ∙ four-next_word w (8 + n) ∙ sym (next_word-take w (8 + n) (omega arith)) ∙ ap (λ (p : List ℕ). next_word p (8 + n)) g.front
+scheduled_more key w t i n size h e g =
+    let at : ℕ = 4 * i in
+    let four : length t ≡ 4 = ap length e ∙ length-next_word w i in
+    let made : t ≡ next_word (expanded_by (i - 8) key) i =
+    e ∙ sym (next_word-take w i g.from) ∙ ap (λ (p : List ℕ). next_word p i) g.front
     in
+    let back : 8 + (i - 8) ≡ i = omega (arith, g.from) in
+    let more : i + 1 - 8 ≡ suc (i - 8) = omega (arith, g.from) in
     record {
+      from = omega (arith, g.from);
       within = omega arith;
-      long = simp length-set g.long;
+      long = simp (length-append, length-take, length-drop) (omega (arith, g.long, four));
       front =
-          ap (λ (k : ℕ). take k (with_word w at t)) next
-          ∙ take_with_word w at t (omega (arith, g.long))
+          take-put_mid at n w t (4 * (i + 1)) (omega (arith, four)) (omega (arith, g.long))
           ∙ ap₂ ◌++◌ g.front made
-          ∙ ap (λ (k : ℕ). expanded_by k key) (sym (add-one n));
+          ∙ rw (more, back);
     }
 
-pub scheduled_all : (key w : List ℕ) (n : ℕ) → 52 ≤ n → Scheduled key w n → w ≡ key_expansion key
-scheduled_all key w n h g =
-    let e : n ≡ 52 = omega arith in
-    sym (take_all (4 * (8 + n)) w (omega (arith, g.long))) ∙ g.front ∙ ap (λ (k : ℕ). expanded_by k key) e ∙ sym (key_expansion-is key)
+pub scheduled_all : (key w : List ℕ) (i : ℕ) → 60 ≤ i → Scheduled key w i → w ≡ key_expansion key
+scheduled_all key w i h g =
+    let e : i ≡ 60 = omega (arith, g.within) in
+    sym (take_all (4 * i) w (omega (arith, g.long))) ∙ g.front ∙ ap (λ (k : ℕ). expanded_by (k - 8) key) e ∙ sym (key_expansion-is key)

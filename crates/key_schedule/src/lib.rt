@@ -4,10 +4,10 @@
 
 ghost use Rattle.std.specs.Prelude.{◌≡◌, ◌-◌, ◌/◌, ◌≤◌, ◌<◌, take};
 ghost use Rattle.octets.specs.Lists.{IsTable};
-ghost use Rattle.octets.specs.Xor.{xors};
 ghost use Rattle.substitution.specs.Sbox.{sbox};
 ghost use Rattle.key_schedule.specs.KeyExpansion.{word, sub_word, rot_word, round_constant, temp, next_word, key_expansion};
 
+use octets::xors;
 use substitution::{substituted, substitution_table, times_x};
 
 fn word_at(w: &[u8; 240], i: usize) -> [u8; 4]
@@ -18,22 +18,11 @@ fn word_at(w: &[u8; 240], i: usize) -> [u8; 4]
     [w[at], w[at + 1], w[at + 2], w[at + 3]]
 }
 
-fn xor_words(a: [u8; 4], b: [u8; 4]) -> [u8; 4]
-    ensures { result ≡ xors 4 a b }
-{
-    [a[0] ^ b[0], a[1] ^ b[1], a[2] ^ b[2], a[3] ^ b[3]]
-}
-
 fn sub_word(table: &[u8; 256], a: [u8; 4]) -> [u8; 4]
     requires { IsTable 256 sbox table.now }
     ensures { result ≡ sub_word a }
 {
-    [
-        substituted(table, a[0]),
-        substituted(table, a[1]),
-        substituted(table, a[2]),
-        substituted(table, a[3]),
-    ]
+    a.map(|b| substituted(table, b))
 }
 
 fn rot_word(a: [u8; 4]) -> [u8; 4]
@@ -64,7 +53,7 @@ fn temporary(table: &[u8; 256], w: &[u8; 240], constant: u8, i: usize) -> [u8; 4
 {
     let last = word_at(w, i - 1);
     if i % 8 == 0 {
-        return xor_words(sub_word(table, rot_word(last)), [constant, 0, 0, 0]);
+        return xors(sub_word(table, rot_word(last)), [constant, 0, 0, 0]);
     }
     if i % 8 == 4 {
         return sub_word(table, last);
@@ -78,7 +67,7 @@ fn next_word(table: &[u8; 256], w: &[u8; 240], constant: u8, i: usize) -> [u8; 4
     requires constant_value { constant ≡ round_constant ((i - 1) / 8) }
     ensures { result ≡ next_word w.now i }
 {
-    xor_words(word_at(w, i - 8), temporary(table, w, constant, i))
+    xors(word_at(w, i - 8), temporary(table, w, constant, i))
 }
 
 // The words of the key, and room for those that follow.
@@ -86,11 +75,7 @@ fn key_words(key: [u8; 32]) -> [u8; 240]
     ensures { take 32 result ≡ key }
 {
     let mut w = [0u8; 240];
-    let mut i: usize = 0;
-    while i < 32 {
-        w[i] = key[i];
-        i += 1;
-    }
+    w[..32].copy_from_slice(&key);
     w
 }
 
@@ -101,17 +86,10 @@ pub fn expand_key(key: [u8; 32]) -> [u8; 240]
     let table = substitution_table();
     let mut w = key_words(key);
     let mut constant: u8 = 1;
-    let mut n: usize = 0;
-    while n < 52 {
-        let i = 8 + n;
+    for i in 8..60 {
         let next = next_word(&table, &w, constant, i);
-        let at = 4 * i;
-        w[at] = next[0];
-        w[at + 1] = next[1];
-        w[at + 2] = next[2];
-        w[at + 3] = next[3];
+        w[4 * i..4 * i + 4].copy_from_slice(&next);
         constant = constant_after(constant, i);
-        n += 1;
     }
     w
 }

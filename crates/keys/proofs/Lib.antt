@@ -1,2 +1,3 @@
 pub mod FoundKeys
+pub mod Loops
 pub mod SameKeys

@@ -54,16 +54,9 @@ pub fn key_state_at(image: &[u8], at: u16, index: u8) -> u8
 pub fn key_index(image: &[u8], at: u16, count: u8, id: u16) -> u8
     ensures { result ≡ key_index image.now at count id }
 {
-    let mut k: u8 = 0;
-    loop {
-        if count <= k {
-            break k;
-        }
-        if key_id_at(image, at, k) == id {
-            break k;
-        }
-        k += 1;
-    }
+    (0..count)
+        .find(|k| key_id_at(image, at, *k) == id)
+        .unwrap_or(count)
 }
 
 // Whether there is a key with an ID, in that state.
@@ -88,10 +81,7 @@ pub fn key_under(image: &[u8], at: u16, count: u8, id: u16) -> [u8; 32]
 fn id_rises(image: &[u8], at: u16, index: u8) -> bool
     ensures { result ≡ id_rises image.now at index }
 {
-    if index == 0 {
-        return true;
-    }
-    key_id_at(image, at, index - 1) < key_id_at(image, at, index)
+    index == 0 || key_id_at(image, at, index - 1) < key_id_at(image, at, index)
 }
 
 fn key_ok(image: &[u8], at: u16, index: u8) -> bool
@@ -104,11 +94,6 @@ fn key_ok(image: &[u8], at: u16, index: u8) -> bool
 pub fn key_part_ok(image: &[u8], at: u16, count: u8) -> bool
     ensures { result ≡ key_part_ok image.now at count }
 {
-    let mut ok = true;
-    let mut k: u8 = 0;
-    while k < count {
-        ok = ok & key_ok(image, at, k);
-        k += 1;
-    }
+    let ok = (0..count).fold(true, |ok, k| ok & key_ok(image, at, k));
     (count <= MOST_KEYS) & ok
 }

@@ -11,6 +11,7 @@ use borrow.Author.Tests.{eq-eqb, lt-ltb}
 use lib.Dec.{eqb, ltb}
 use lib.ListN.{length, take, set, length-set, get_or-append}
 use lib.Seq.{get_or-set_same, get_or-set_other, get_or-take, length-take-le}
+use Rattle.std.specs.Prelude.{Option, Some, None}
 use Rattle.octets.specs.Lists.{octet}
 use Rattle.headers.specs.Fields.{tc_spacecraft, tc_channel, segment_map, tm_secondary, secondary_length}
 use Rattle.headers.specs.Telecommand.{tc_rules, tc_length_ok, tc_with_length}
@@ -19,8 +20,7 @@ use Rattle.kinds.specs.Kinds.{Kind, telecommand, tc, segmented_tc, tm, aos, no_k
 use Rattle.kinds.specs.Kinds.{check_field_length, with_check_field, framed}
 use Rattle.kinds.specs.declared.framing.Framing.{Framing}
 use Rattle.kinds.specs.declared.kinds.Kind.TheVariants as kind
-use Rattle.kinds.specs.declared.kinds.Named.{Named}
-use Rattle.kinds.specs.declared.kinds.Named.TheVariants as answer
+use Rattle.kinds.specs.declared.kinds.Kind as code
 
 -- a frame s that begins with the header of another, its length rewritten
 pub record Kept (k : Kind) (frame s : List ℕ) : Type 0 where
@@ -248,12 +248,12 @@ none_lawful =
       keeps = λ n frame rest ok fits count some small. let z : ◌≡◌ {A = ℕ} 0 1 = cc in absurd (omega arith);
     }
 
-lawful_named : (a : Named) → Lawful (kind_behind a)
-lawful_named (answer.Kind kind.Tc) = tc_lawful
-lawful_named (answer.Kind kind.SegmentedTc) = segmented_lawful
-lawful_named (answer.Kind kind.Tm) = tm_lawful
-lawful_named (answer.Kind kind.Aos) = aos_lawful
-lawful_named answer.Nothing = none_lawful
+lawful_named : (a : Option code.Kind) → Lawful (kind_behind a)
+lawful_named (Some kind.Tc) = tc_lawful
+lawful_named (Some kind.SegmentedTc) = segmented_lawful
+lawful_named (Some kind.Tm) = tm_lawful
+lawful_named (Some kind.Aos) = aos_lawful
+lawful_named None = none_lawful
 
 -- ---- with a check field: the header is the kind's, and nothing in it says how long the trailer then is
 
@@ -282,7 +282,7 @@ module _ (present : Bool) (k : Kind) (law : Lawful k) where
       record { long = law.long; other = law.other; counted = λ frame. omega arith; same_header = law.same_header; keeps = keeps_with }
 
 pub lawful_framed : (framing : Framing) → Lawful (framed framing)
-lawful_framed framing = lawful_with framing.field (kind_is framing.kind) (lawful_named (answer.Kind framing.kind))
+lawful_framed framing = lawful_with framing.field (kind_is framing.kind) (lawful_named (Some framing.kind))
 
 pub lawful : (present : Bool) (number : ℕ) → Lawful (with_check_field present (kind_of number))
 lawful present number = lawful_with present (kind_of number) (lawful_named (named number))

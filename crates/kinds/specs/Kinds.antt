@@ -1,7 +1,7 @@
 -- Document 01, 'Frames' and 'The image', and document 02, requests 1, 4 and 6: the frame kinds. Everything that the papers say of one kind
 -- stands in its record, and nothing else names a kind's numbers.
 -- Assumes nothing.
-use Rattle.std.specs.Prelude.{ℕ, ◌+◌, Bool, true, false, ◌&&◌, ◌||◌, not, cond, List, eqb, ltb}
+use Rattle.std.specs.Prelude.{ℕ, ◌+◌, Bool, true, false, ◌&&◌, ◌||◌, not, cond, List, eqb, ltb, Option, Some, None}
 use Rattle.headers.specs.Aos.{aos_rules}
 use Rattle.headers.specs.Fields.{tc_spacecraft, tc_channel, segment_map, tm_spacecraft, tm_channel, aos_spacecraft, aos_channel}
 use Rattle.headers.specs.Telecommand.{tc_rules, tc_length_ok, tc_holds_length, tc_with_length}
@@ -9,10 +9,6 @@ use Rattle.headers.specs.Telemetry.{tm_primary, most_secondary, tm_rules, tm_hea
 use Rattle.kinds.specs.declared.framing.Framing.{Framing}
 use Rattle.kinds.specs.declared.kinds.Kind as code
 use Rattle.kinds.specs.declared.kinds.Kind.TheVariants as kind
-use Rattle.kinds.specs.declared.kinds.Named.{Named}
-use Rattle.kinds.specs.declared.kinds.Named.TheVariants as answer
-use Rattle.kinds.specs.declared.kinds.Rewritten.{Rewritten}
-use Rattle.kinds.specs.declared.kinds.Rewritten.TheVariants as rewriting
 
 pub record Kind : Type 0 where
   -- the rules on the bits of the header
@@ -147,11 +143,6 @@ most_header = tm_primary + most_secondary
 abbrev pub has_map : Kind → Bool
 has_map k = ltb 0 k.most_map
 
--- what comes back of rewriting: the field was rewritten, or there is none
-abbrev pub rewritten : Bool → Rewritten
-rewritten true = rewriting.Field
-rewritten false = rewriting.Nothing
-
 -- ---- the kind that the caller names by its number
 
 -- what the paper says of each kind of the code
@@ -162,16 +153,16 @@ kind_is kind.Tm = tm
 kind_is kind.Aos = aos
 
 -- 1 TC without segment header, 2 TC with it, 3 TM, 4 AOS; another number names none
-unfoldable pub named : ℕ → Named
+unfoldable pub named : ℕ → Option code.Kind
 named number =
-    cond (eqb number 1) (answer.Kind kind.Tc)
-    (cond (eqb number 2) (answer.Kind kind.SegmentedTc)
-    (cond (eqb number 3) (answer.Kind kind.Tm)
-    (cond (eqb number 4) (answer.Kind kind.Aos) answer.Nothing)))
+    cond (eqb number 1) (Some kind.Tc)
+    (cond (eqb number 2) (Some kind.SegmentedTc)
+    (cond (eqb number 3) (Some kind.Tm)
+    (cond (eqb number 4) (Some kind.Aos) None)))
 
-abbrev pub kind_behind : Named → Kind
-kind_behind (answer.Kind k) = kind_is k
-kind_behind answer.Nothing = no_kind
+abbrev pub kind_behind : Option code.Kind → Kind
+kind_behind (Some k) = kind_is k
+kind_behind None = no_kind
 
 abbrev pub kind_of : ℕ → Kind
 kind_of number = kind_behind (named number)

@@ -1,7 +1,7 @@
 // Document 01, 'Frames' and 'The image', and document 02, requests 1 and 6: one enum of kinds, which answers for whichever kind the caller
 // named.
 ghost use Rattle.std.specs.Prelude.{◌≡◌};
-ghost use Rattle.kinds.specs.Kinds.{kind_is, named, rewritten};
+ghost use Rattle.kinds.specs.Kinds.{kind_is, named};
 
 use aos::Aos;
 use telecommand::{Segment, Tc};
@@ -27,39 +27,16 @@ pub enum Kind {
     Aos,
 }
 
-#[derive(Clone, Copy)]
-pub enum Named {
-    Kind(Kind),
-    Nothing,
-}
-
-// What came of rewriting a length field; Nothing where the kind has none, or the octets end before it.
-#[derive(Clone, Copy)]
-pub enum Rewritten {
-    Field,
-    Nothing,
-}
-
-fn rewritten_if(holds: bool) -> Rewritten
-    ensures { result ≡ rewritten holds }
-{
-    if holds {
-        Rewritten::Field
-    } else {
-        Rewritten::Nothing
-    }
-}
-
 // The kind that a number names, if it names one.
-pub fn kind_of(number: u8) -> Named
+pub fn kind_of(number: u8) -> Option<Kind>
     ensures { result ≡ named number }
 {
     match number {
-        1 => Named::Kind(Kind::Tc),
-        2 => Named::Kind(Kind::SegmentedTc),
-        3 => Named::Kind(Kind::Tm),
-        4 => Named::Kind(Kind::Aos),
-        _ => Named::Nothing,
+        1 => Some(Kind::Tc),
+        2 => Some(Kind::SegmentedTc),
+        3 => Some(Kind::Tm),
+        4 => Some(Kind::Aos),
+        _ => None,
     }
 }
 
@@ -147,15 +124,14 @@ impl Kind {
         }
     }
 
-    // The length field for a frame of n octets, in place: of a header, or of a frame that starts with it.
-    pub fn rewrite_length(self, frame: &mut [u8], n: usize) -> Rewritten
-        ensures { (result ≡ rewritten ((kind_is self).holds_length frame.old)) × (frame.new ≡ (kind_is self).with_length n frame.old) }
+    // The length field for a frame of n octets, in place: of a header, or of a frame that starts with it. Whether there is one: the kind may
+    // have none, or the octets end before it.
+    pub fn rewrite_length(self, frame: &mut [u8], n: usize) -> bool
+        ensures { (result ≡ (kind_is self).holds_length frame.old) × (frame.new ≡ (kind_is self).with_length n frame.old) }
     {
         match self {
-            Kind::Tc => rewritten_if(Tc::rewrite_length(frame, n)),
-            Kind::SegmentedTc => rewritten_if(Tc::rewrite_length(frame, n)),
-            Kind::Tm => Rewritten::Nothing,
-            Kind::Aos => Rewritten::Nothing,
+            Kind::Tc | Kind::SegmentedTc => Tc::rewrite_length(frame, n),
+            Kind::Aos | Kind::Tm => false,
         }
     }
 

@@ -7,4 +7,4 @@ mod framing;
 mod kinds;
 
 pub use framing::Framing;
-pub use kinds::{Kind, Named, Rewritten, kind_of};
+pub use kinds::{Kind, kind_of};

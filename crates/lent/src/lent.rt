@@ -14,11 +14,7 @@ pub fn numbers_in(lent: &[u32]) -> Numbers
     ensures { result.last ≡ lent.now }
 {
     let mut last: [u32; 32] = [0; 32];
-    let mut i: usize = 0;
-    while i < 32 {
-        last[i] = lent[i];
-        i += 1;
-    }
+    last.copy_from_slice(lent);
     Numbers { last }
 }
 
@@ -28,12 +24,10 @@ fn hand_back(numbers: Numbers, lent: &mut [u32])
     ensures { lent.new ≡ numbers.last }
 {
     let last = numbers.last;
-    let mut i: usize = 0;
-    while i < 32 {
+    for i in 0..32 {
         if lent[i] != last[i] {
             lent[i] = last[i];
         }
-        i += 1;
     }
 }
 

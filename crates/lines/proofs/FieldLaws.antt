@@ -1,45 +1,36 @@
--- Laws of fields, at any place of a text: where a field ends, where the next begins, and a field by the text that is left.
+-- Laws of fields: where a field ends, and the fields behind the first.
 -- Assumes nothing.
-use mathlib.Core.Path.{◌≡◌, ◌∙◌, sym}
-use mathlib.Core.Bool.{true, false}
-use mathlib.Core.List.{List}
-use Prim.Native.Nat.{ℕ, zero, suc, ◌+◌, ◌-◌, ◌≤◌, ◌<◌}
-use native.Mathlib.Numerals.{add-one}
-use native.Mathlib.Omega.{arith}
-use lib.ListN.{length, take, drop, drop_of_length-le}
-use lib.Seq.{drop-cons, drop-drop}
-use Rattle.octets.specs.Lists.{octet}
+use Rattle.std.proofs.Common.{◌≡◌, ◌∙◌, ℕ, suc, ◌+◌, ◌-◌, ◌<◌, ◌≤◌, List, [], ◌∷◌, refl, ap, cond, length, take, drop, arith}
+use Rattle.std.specs.Prelude.{unwrap_or, position}
+use Rattle.std.specs.List.{position_or_len}
+use Rattle.std.proofs.lemmas.List.Sums.{prefix_len-le-length}
+use borrow.Author.Tests.{lt-ltb, le-ltb}
+use native.Mathlib.Decide.{dec_lt}
+use Rattle.std.proofs.lemmas.List.Recursion.{is_position_or_len}
 use Rattle.lines.specs.Fields.{ends_field, field_length, field_of}
 
--- ---- where a field ends
-
-pub ends_with_text : (s : List ℕ) (i : ℕ) → length s ≤ i → field_length (drop i s) ≡ 0
+one_more : (c : ℕ) (s : List ℕ) → field_length (c ∷ s) ≡ cond (ends_field c) 0 (1 + field_length s)
 unfolding field_length
-ends_with_text s i h = rw (drop_of_length-le s h)
+one_more c s = let e : suc (field_length s) ≡ 1 + field_length s = omega arith in ap (λ (n : ℕ). cond (ends_field c) 0 n) e
 
-pub ends_here : (s : List ℕ) (i : ℕ) → i < length s → ends_field (octet s i) ≡ true → field_length (drop i s) ≡ 0
+none : field_length [] ≡ 0
 unfolding field_length
-ends_here s i h e = rw (drop-cons s i 0 h, e)
+none = refl
 
-pub goes_on : (s : List ℕ) (i : ℕ) → i < length s → ends_field (octet s i) ≡ false
-    → field_length (drop i s) ≡ field_length (drop (i + 1) s) + 1
-unfolding field_length
-goes_on s i h e = rw (drop-cons s i 0 h, e, add-one i, add-one)
+or_len : (s : List ℕ) → position_or_len ends_field s ≡ unwrap_or (position ends_field s) (length s)
+or_len s = by_place (dec_lt (position_or_len ends_field s) (length s))
+  where
+    by_place : Dec (position_or_len ends_field s < length s) → position_or_len ends_field s ≡ unwrap_or (position ends_field s) (length s)
+    by_place (yes h) = rw (lt-ltb _ _ h)
+    by_place (no h) = let most : position_or_len ends_field s ≤ length s = prefix_len-le-length _ s in let e : position_or_len ends_field s ≡ length s = omega arith in rw (e, le-ltb (length s) (length s) (omega arith))
 
--- ---- where the next begins, and a field by the text that is left
+pub length_is : (s : List ℕ) → field_length s ≡ unwrap_or (position ends_field s) (length s)
+length_is s = is_position_or_len field_length ends_field none one_more s ∙ or_len s
 
-module _ (s : List ℕ) (from end : ℕ) (ends : end ≡ from + field_length (drop from s)) where
-  pub behind : drop (end + 1) s ≡ drop (suc (field_length (drop from s))) (drop from s)
-  behind = let e : end + 1 ≡ from + suc (field_length (drop from s)) = omega arith in rw (e, ← drop-drop)
-
-  pub behind_last : length s ≤ end → drop end s ≡ drop (suc (field_length (drop from s))) (drop from s)
-  behind_last h = drop_of_length-le s h ∙ sym (drop_of_length-le s {i = end + 1} (omega arith)) ∙ behind
-
-  pub is-first : take (end - from) (drop from s) ≡ field_of 0 (drop from s)
-  unfolding field_of
-  is-first = let e : end - from ≡ field_length (drop from s) = omega arith in rw e
-
-pub is-next : (s t : List ℕ) (n : ℕ) → 0 < n → t ≡ drop (suc (field_length s)) s → field_of n s ≡ field_of (n - 1) t
+pub next_field : (n k : ℕ) (s : List ℕ) → k < n → field_of (n - k) s ≡ field_of (n - (k + 1)) (drop (suc (field_length s)) s)
 unfolding field_of
-is-next s t zero h e = absurd (omega arith)
-is-next s t (suc n) h e = let p : suc n - 1 ≡ n = omega arith in rw (p, e)
+next_field n k s h = let e : n - k ≡ suc (n - (k + 1)) = omega arith in rw e
+
+pub last_field : (n k : ℕ) (s : List ℕ) → n ≤ k → take (field_length s) s ≡ field_of (n - k) s
+unfolding field_of
+last_field n k s h = let e : n - k ≡ 0 = omega arith in rw e

@@ -1,20 +1,21 @@
 -- Laws of octets in hexadecimal: what a digit stands for, and a text that is read two characters a turn.
 --     Reading       after i turns: the first i octets that the text spells are at the front, and what is left of the text spells the others
 --     reading_none, reading_more     before the first turn; a turn
---     text_ended, none-spelled, room_filled     the three ends of reading
+--     none-spelled, all_read     the two ends of reading
 -- Assumes nothing.
 use mathlib.Core.Path.{◌≡◌, ◌∙◌, refl, sym, ap}
 use mathlib.Core.List.{List, [], ◌∷◌, ◌++◌}
-use Prim.Native.Nat.{ℕ, suc, ◌+◌, ◌*◌, ◌/◌, ◌≤◌, ◌<◌}
+use Prim.Native.Nat.{ℕ, suc, min, ◌+◌, ◌*◌, ◌/◌, ◌≤◌, ◌<◌}
 use native.Mathlib.Nat.{add-zero, zero-add}
 use native.Mathlib.Numerals.{add-one}
 use native.Mathlib.Omega.{arith}
-use borrow.Author.Tests.{lt-ltb, le-ltb}
+use native.Mathlib.Decide.{dec_lt}
 use lib.ListN.{length, set, take, drop, length-drop, length-set}
 use lib.Seq.{drop-cons, drop-drop, get_or-drop, paste-suc}
 use Rattle.lines.proofs.Counting.{prefix_len_of_le}
 use Rattle.octets.specs.Lists.{octet}
-use Rattle.lines.specs.Hexadecimal.{octet_of, octets_of, Read}
+use Rattle.std.specs.Prelude.{Option, Some, None}
+use Rattle.lines.specs.Hexadecimal.{octet_of, then_octets, octets_of, Read}
 
 -- ---- the octets that a text spells from a place on
 
@@ -25,16 +26,15 @@ short (c ∷ []) h = refl
 short (c ∷ d ∷ s) h = absurd (omega arith)
 
 module _ (s : List ℕ) (k : ℕ) (two : k + 1 < length s) where
-  pub spells_none : 255 < octet_of (octet s k) (octet s (k + 1)) → octets_of (drop k s) ≡ []
+  pair : octets_of (drop k s) ≡ then_octets (octet_of (octet s k) (octet s (k + 1))) (octets_of (drop (k + 1 + 1) s))
   unfolding octets_of
-  spells_none h =
-      rw (drop-cons s k 0 (omega arith), drop-cons s (suc k) 0 (omega arith), ← add-one k, lt-ltb 255 _ h)
+  pair = rw (drop-cons s k 0 (omega arith), drop-cons s (suc k) 0 (omega arith), ← add-one k, ← add-one (k + 1))
 
-  pub spells : octet_of (octet s k) (octet s (k + 1)) ≤ 255
-      → octets_of (drop k s) ≡ octet_of (octet s k) (octet s (k + 1)) ∷ octets_of (drop (k + 1 + 1) s)
-  unfolding octets_of
-  spells h =
-      rw (drop-cons s k 0 (omega arith), drop-cons s (suc k) 0 (omega arith), ← add-one k, ← add-one (k + 1), le-ltb 255 _ h)
+  pub spells_none : None ≡ octet_of (octet s k) (octet s (k + 1)) → octets_of (drop k s) ≡ []
+  spells_none e = pair ∙ ap (λ (o : Option ℕ). then_octets o (octets_of (drop (k + 1 + 1) s))) (sym e)
+
+  pub spells : (x : ℕ) → Some x ≡ octet_of (octet s k) (octet s (k + 1)) → octets_of (drop k s) ≡ x ∷ octets_of (drop (k + 1 + 1) s)
+  spells x e = pair ∙ ap (λ (o : Option ℕ). then_octets o (octets_of (drop (k + 1 + 1) s))) (sym e)
 
 -- ---- reading
 
@@ -60,12 +60,11 @@ module _ (s t : List ℕ) (i x : ℕ) (e : drop i s ≡ x ∷ t) where
   others_are = sym (drop-drop 1 i s) ∙ ap (λ (l : List ℕ). drop 1 l) e
 
 module _ {text before after : List ℕ} {i : ℕ} (r : Reading text before after i) where
-  pub reading_more : 2 * i + 1 < length text → i < length before → octet_of (octet text (2 * i)) (octet text (2 * i + 1)) ≤ 255
-      → Reading text before (set after i (octet_of (octet text (2 * i)) (octet text (2 * i + 1)))) (i + 1)
-  reading_more two more h =
-      let x : ℕ = octet_of (octet text (2 * i)) (octet text (2 * i + 1)) in
+  pub reading_more : (x : ℕ) → 2 * i + 1 < length text → i < length before → Some x ≡ octet_of (octet text (2 * i)) (octet text (2 * i + 1))
+      → Reading text before (set after i x) (i + 1)
+  reading_more x two more h =
       let t : List ℕ = octets_of (drop (2 * i + 1 + 1) text) in
-      let e : drop i (octets_of text) ≡ x ∷ t = sym r.rest ∙ spells text (2 * i) two h in
+      let e : drop i (octets_of text) ≡ x ∷ t = sym r.rest ∙ spells text (2 * i) two x h in
       let l : i < length (octets_of text) = inside (octets_of text) t i x e in
       let k : 2 * (i + 1) ≡ 2 * i + 1 + 1 = omega arith in
       record {
@@ -82,16 +81,23 @@ module _ {text before after : List ℕ} {i : ℕ} (r : Reading text before after
       let l : length (octets_of text) ≡ i = omega (arith, simp length-drop at (ap length (sym r.rest ∙ e)), r.within) in
       record { many = omega (arith, r.room); front = r.front; counts = prefix_len_of_le _ _ (omega (arith, r.long, r.room)) }
 
-  pub text_ended : length text / 2 ≤ i → Read text before after i
-  text_ended h = ended (short (drop (2 * i) text) (simp length-drop (omega arith)))
-
-  pub none-spelled : 2 * i + 1 < length text → 255 < octet_of (octet text (2 * i)) (octet text (2 * i + 1)) → Read text before after i
+  pub none-spelled : 2 * i + 1 < length text → None ≡ octet_of (octet text (2 * i)) (octet text (2 * i + 1)) → Read text before after i
   none-spelled two h = ended (spells_none text (2 * i) two h)
 
-  pub room_filled : length before ≤ i → Read text before after i
+  text_ended : length text / 2 ≤ i → Read text before after i
+  text_ended h = ended (short (drop (2 * i) text) (simp length-drop (omega arith)))
+
+  room_filled : length before ≤ i → Read text before after i
   room_filled h =
       record {
         many = omega (arith, r.room, r.within);
         front = r.front;
         counts = prefix_len_of_le _ _ (omega (arith, r.long, r.room));
       }
+
+  pub all_read : i ≡ min (length before) (length text / 2) → Read text before after i
+  all_read e = by_room (dec_lt i (length before))
+    where
+      by_room : Dec (i < length before) → Read text before after i
+      by_room (no full) = room_filled (omega arith)
+      by_room (yes more) = text_ended (omega arith)

@@ -2,4 +2,3 @@ pub mod Counting
 mod DecimalLaws
 mod FieldLaws
 mod HexadecimalLaws
-mod InputLaws

@@ -2,45 +2,27 @@
 ghost use Rattle.std.specs.Prelude.{◌≡◌};
 ghost use Rattle.lines.specs.Decimal.{longer_by, spelled};
 
-// What a text spells: a number, or none.
-#[derive(Clone, Copy)]
-pub enum Number {
-    Is(u64),
-    Nothing,
-}
-
 // The number with one digit more.
-fn longer(n: u64, c: u8) -> Number
+fn longer(n: u64, c: u8) -> Option<u64>
     ensures { result ≡ longer_by n c }
 {
-    if c < b'0' {
-        return Number::Nothing;
+    match c {
+        b'0'..=b'9' => n.checked_mul(10)?.checked_add(u64::from(c - b'0')),
+        _ => None,
     }
-    if b'9' < c {
-        return Number::Nothing;
-    }
-    let digit = (c - b'0') as u64;
-    if (u64::MAX - digit) / 10 < n {
-        return Number::Nothing;
-    }
-    Number::Is(10 * n + digit)
 }
 
 // The number that a text spells. A text that is empty, has a character that is no digit, or spells more than a u64 holds, spells none.
-pub fn read_number(text: &[u8]) -> Number
+// `parse` is not this function: it takes a sign before the digits.
+pub fn read_number(text: &[u8]) -> Option<u64>
     ensures { result ≡ spelled text.now }
 {
-    if text.len() == 0 {
-        return Number::Nothing;
+    if text.is_empty() {
+        return None;
     }
-    let mut n: u64 = 0;
-    let mut i: usize = 0;
-    while i < text.len() {
-        let Number::Is(next) = longer(n, text[i]) else {
-            return Number::Nothing;
-        };
-        n = next;
-        i += 1;
+    let mut n = 0;
+    for c in text {
+        n = longer(n, *c)?;
     }
-    Number::Is(n)
+    Some(n)
 }

@@ -1,56 +1,44 @@
 // Parts of a text: its front, and its fields, each of which a space or a line feed ends.
-ghost use Rattle.std.specs.Prelude.{◌≡◌, ◌+◌, suc, ◌≤◌, length, take, drop};
+ghost use Rattle.std.specs.Prelude.{◌≡◌, suc, ◌≤◌, length, take, drop, position};
 ghost use Rattle.lines.specs.Fields.{ends_field, field_length, field_of};
 
 // The first n characters, or all of fewer.
 pub fn front(text: &[u8], n: usize) -> &[u8]
     ensures { result.now ≡ take n text.now }
 {
-    if n <= text.len() { &text[..n] } else { text }
+    text.get(..n).unwrap_or(text)
 }
 
-fn ends_field(c: u8) -> bool
-    ensures { result ≡ ends_field c }
+// Where the first field of a text ends, if a character ends it.
+fn field_end(text: &[u8]) -> Option<usize>
+    ensures { result ≡ position ends_field text.now }
 {
-    (c == b' ') | (c == b'\n')
+    text.iter().position(|c| matches!(*c, b' ' | b'\n'))
 }
 
-// Where the field that begins at a place ends.
-fn field_end(line: &[u8], from: usize) -> usize
-    requires { from ≤ length line.now }
-    ensures lower_bound { (from ≤ result) × (result ≤ length line.now) }
-    ensures value { result ≡ from + field_length (drop from line.now) }
+// How many characters the first field of a text has.
+fn field_length(text: &[u8]) -> usize
+    ensures upper_bound { result ≤ length text.now }
+    ensures value { result ≡ field_length text.now }
 {
-    let mut at = from;
-    while at < line.len() {
-        if ends_field(line[at]) {
-            return at;
-        }
-        at += 1;
-    }
-    at
+    field_end(text).unwrap_or(text.len())
 }
 
-// Where the next field begins: behind the character that ends this one.
-fn behind_field(line: &[u8], from: usize) -> usize
-    requires { from ≤ length line.now }
-    ensures upper_bound { result ≤ length line.now }
-    ensures line_value { drop result line.now ≡ drop (suc (field_length (drop from line.now))) (drop from line.now) }
+// The text behind its first field and the character that ends it.
+fn behind_field(text: &[u8]) -> &[u8]
+    ensures { result.now ≡ drop (suc (field_length text.now)) text.now }
 {
-    let end = field_end(line, from);
-    if end < line.len() { end + 1 } else { end }
+    let end = field_length(text);
+    text.get(end + 1..).unwrap_or(&[])
 }
 
 // Field n of a line, counted from 0. A field that the line lacks is empty.
 pub fn field(line: &[u8], n: usize) -> &[u8]
     ensures { result.now ≡ field_of n line.now }
 {
-    let mut from: usize = 0;
-    let mut left = n;
-    while left > 0 {
-        from = behind_field(line, from);
-        left -= 1;
+    let mut rest = line;
+    for _ in 0..n {
+        rest = behind_field(rest);
     }
-    let end = field_end(line, from);
-    &line[from..end]
+    &rest[..field_length(rest)]
 }

@@ -1,38 +1,25 @@
 // Octets in hexadecimal: two digits for each, in lower case.
-ghost use Rattle.std.specs.Prelude.{◌≡◌, ◌≤◌};
+ghost use Rattle.std.specs.Prelude.{◌≡◌};
 ghost use Rattle.lines.specs.Hexadecimal.{digit_of, octet_of, Read};
 
-// What a digit stands for, or 16 where the character is none.
-fn digit(c: u8) -> u16
-    ensures value { result ≡ digit_of c }
-    ensures upper_bound { result ≤ 16 }
+use std::fmt;
+
+// The value of a digit. `to_digit` is not this function: it takes upper case too.
+fn digit(c: u8) -> Option<u8>
+    ensures { result ≡ digit_of c }
 {
-    if c < b'0' {
-        16
-    } else if c <= b'9' {
-        (c - b'0') as u16
-    } else if c < b'a' {
-        16
-    } else if c <= b'f' {
-        (c - b'a' + 10) as u16
-    } else {
-        16
+    match c {
+        b'0'..=b'9' => Some(c - b'0'),
+        b'a'..=b'f' => Some(c - b'a' + 10),
+        _ => None,
     }
 }
 
-// The octet that two digits spell, or 256 where a character is no digit.
-fn octet(high: u8, low: u8) -> u16
+// The octet that two digits spell.
+fn octet(high: u8, low: u8) -> Option<u8>
     ensures { result ≡ octet_of high low }
 {
-    let high = digit(high);
-    let low = digit(low);
-    if high == 16 {
-        return 256;
-    }
-    if low == 16 {
-        return 256;
-    }
-    16 * high + low
+    Some(16 * digit(high)? + digit(low)?)
 }
 
 // The octets that a text spells, up to its first two characters that spell none, to the front of `out`, as many as there is room for.
@@ -40,17 +27,25 @@ fn octet(high: u8, low: u8) -> u16
 pub fn read_octets(text: &[u8], out: &mut [u8]) -> usize
     ensures { Read text.now out.old out.new result }
 {
-    let mut i: usize = 0;
-    while i < out.len() {
-        if text.len() / 2 <= i {
+    let most = out.len().min(text.len() / 2);
+    for i in 0..most {
+        let Some(next) = octet(text[2 * i], text[2 * i + 1]) else {
             return i;
-        }
-        let next = octet(text[2 * i], text[2 * i + 1]);
-        if 255 < next {
-            return i;
-        }
-        out[i] = next as u8;
-        i += 1;
+        };
+        out[i] = next;
     }
-    i
+    most
+}
+
+// Octets that are written in hexadecimal, one behind the other.
+#[derive(Clone, Copy)]
+pub struct Hexadecimal<'a>(pub &'a [u8]);
+
+impl fmt::Display for Hexadecimal<'_> {
+    fn fmt<W: fmt::Write>(&self, f: &mut fmt::Formatter<W>) -> fmt::Result {
+        for octet in self.0 {
+            write!(f, "{octet:02x}")?;
+        }
+        Ok(())
+    }
 }

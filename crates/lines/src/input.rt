@@ -12,17 +12,34 @@ pub fn read_line(from: &mut impl Read, line: &mut [u8]) -> io::Result<usize>
     ensures read { IfOk result (Line line.old line.new) }
     ensures failed { OnErr result (length line.new ≡ length line.old) }
 {
-    let mut n: usize = 0;
-    while n < line.len() {
+    for n in 0..line.len() {
         let mut one = [0u8; 1];
         if from.read(&mut one)? == 0 {
             return Ok(n);
         }
         line[n] = one[0];
-        n += 1;
         if one[0] == b'\n' {
-            return Ok(n);
+            return Ok(n + 1);
         }
     }
-    Ok(n)
+    Ok(line.len())
+}
+
+// Calls `each` with the number of every line, from 0, and its text, which is read to the front of `line`, until there are no more or `each`
+// answers false.
+pub fn each_line<F: FnMut(u64, &[u8]) -> io::Result<bool>>(
+    from: &mut impl Read,
+    line: &mut [u8],
+    mut each: F,
+) -> io::Result<()>
+    requires { (each : F) (n : _) (line : _) → F.pre each n line }
+{
+    // A proved loop has to end, and nothing says that an input does: the bound is a number of lines that none has.
+    for n in 0..u64::MAX {
+        let count = read_line(from, line)?;
+        if count == 0 || !each(n, &line[..count])? {
+            break;
+        }
+    }
+    Ok(())
 }

@@ -15,12 +15,13 @@ use Rattle.marks.proofs.Made.{length-steps}
 use Rattle.image.proofs.ValidImages.{valid-laid}
 use Rattle.numbers.specs.declared.numbers.Numbers.{Numbers}
 use Rattle.octets.specs.Output.{written}
-use Rattle.judging.specs.Answers.{Reported, reported, granted}
+use Rattle.std.specs.Prelude.{Err}
+use Rattle.judging.specs.Answers.{Reported, reported, refusal, granted}
 use Rattle.link.specs.Calls.{Left, leaving, left}
 use Rattle.judging.specs.Replies.{Reply}
 use Rattle.link.specs.Steps.{outcome}
 use Rattle.judging.specs.Verdicts.{judgement, Grants, Refuses}
-use Rattle.judging.specs.declared.answers.Answer.{Answer}
+use Rattle.judging.specs.declared.answers.Refusal.{Refusal}
 use Rattle.link.specs.declared.outcome.Outcome.{Outcome}
 use Rattle.judging.specs.declared.verdict.Grant.{Grant}
 use Rattle.link.proofs.Leaving.{left-done, left-refused}
@@ -35,7 +36,7 @@ counted image i n v h = rw (has_entry_lem image i (valid-laid image v) h) (lengt
 -- ---- what is left
 
 module _ (q : Reply) (image output : List ℕ) where
-  pub carried_refusal : (a : Answer) (numbers : Numbers) (r : Outcome) → Refuses a q.answer → r ≡ outcome a numbers
+  pub carried_refusal : (a : Refusal) (numbers : Numbers) (r : Outcome) → Refuses a q.answer → r ≡ outcome (Err a) numbers
       → leaving r image output ≡ left q image numbers.last output
   carried_refusal a numbers r j e =
       let of : Reported → Left = λ x.
@@ -49,7 +50,7 @@ module _ (q : Reply) (image output : List ℕ) where
       }
       in
       ap (λ (x : Outcome). leaving x image output) e
-      ∙ ap of j.answer
+      ∙ ap (λ (n : ℕ). of (refusal n)) j.answer
       ∙ sym (left-refused q image numbers.last output (λ z. omega (arith, j.some)))
 
   pub carried_grant : (g : Grant) (last : List ℕ) (r : Outcome) (after out : List ℕ) → Grants g (judgement q)

@@ -10,10 +10,10 @@ use native.Mathlib.Omega.{arith}
 use borrow.Author.Tests.{eqb-true}
 use lib.Dec.{eqb}
 use lib.ListN.{length, length-take, length-drop}
+use Rattle.std.specs.Prelude.{Option, Some, None}
 use Rattle.kinds.specs.Kinds.{Kind, kind_behind, named}
 use Rattle.frame.specs.Parts.{secured_content}
-use Rattle.kinds.specs.declared.kinds.Named.{Named}
-use Rattle.kinds.specs.declared.kinds.Named.TheVariants as answer
+use Rattle.kinds.specs.declared.kinds.Kind as code
 use Rattle.frame.proofs.Room.{obeyed}
 use Rattle.kinds.proofs.Sizes.{largest-most}
 use Rattle.octets.proofs.Alls.{and_left, and_right}
@@ -94,9 +94,9 @@ module _ (image last : List ℕ) (w : Wanted) (passed : valid_image image ≡ tr
 
 -- ---- a short result
 
-largest_of : (n : Named) → (kind_behind n).largest ≤ 2048
-largest_of (answer.Kind k) = largest-most k
-largest_of answer.Nothing = omega arith
+largest_of : (n : Option code.Kind) → (kind_behind n).largest ≤ 2048
+largest_of (Some k) = largest-most k
+largest_of None = omega arith
 
 clear_inside : (h : Held) (k : Kind) (frame : List ℕ) → clear_length h k frame ≤ length frame
 unfolding clear_length text_in secured_content

@@ -7,13 +7,13 @@ use mathlib.Core.Bool.{Bool, true, false}
 use mathlib.Core.List.{List, []}
 use native.Mathlib.Omega.{arith}
 use borrow.Author.Tests.{eq-eqb, ne_eqb}
+use Rattle.std.specs.Prelude.{Option}
 use Rattle.kinds.specs.Kinds.{Kind, framed}
 use Rattle.kinds.specs.declared.framing.Framing.{Framing}
 use Rattle.image.specs.Image.{body_of, key_of}
 use Rattle.association.specs.Association.{Association, association_of, naming_of, held, held_in, the_one, index_of}
 use Rattle.numbers.specs.Numbers.{number_of}
 use Rattle.association.specs.declared.held.Held.{Held}
-use Rattle.association.specs.declared.search.Found.{Found}
 use Rattle.association.specs.declared.search.Wanted.{Wanted}
 use Rattle.protection.specs.Protection.{secured_length, secured_frame, number_in, mac_right, clear_length, clear_data}
 use Rattle.judging.specs.Answers.{first}
@@ -21,7 +21,7 @@ use Rattle.judging.specs.Replies.{Seen, seen, Reply, raising, front_tests, sendi
 use Rattle.judging.specs.Said.{Said, kind_said}
 use Rattle.judging.specs.Verdicts.{Refuses, Admits, judgement, sending_judged, receiving_judged}
 use Rattle.judging.specs.Wants.{securing_wants, checking_wants}
-use Rattle.judging.specs.declared.answers.Answer.{Answer}
+use Rattle.judging.specs.declared.answers.Refusal.{Refusal}
 use Rattle.judging.proofs.Answered.{held_by, fronted, past_front}
 use Rattle.judging.proofs.First.{stops}
 use Rattle.judging.proofs.Searches.{Finds, finds_at}
@@ -58,7 +58,7 @@ module _ (image last : List ℕ) (said : Said) (spi : ℕ) (frame : List ℕ) (r
   abbrev sends : Seen
   sends = seen image last (securing_wants said spi frame)
 
-  pub securing-refused : (a : Answer) → Refuses a (first (front_tests sends said frame false))
+  pub securing-refused : (a : Refusal) → Refuses a (first (front_tests sends said frame false))
       → Refuses a (securing_reply image last said spi frame room).answer
   unfolding securing_reply securing securing_tests
   securing-refused a r = rw (stops _ (sending_tests (held_by sends) (the_one sends.found).number (kind_said said) frame room) r.some) r
@@ -85,7 +85,7 @@ module _ (image last : List ℕ) (said : Said) (spi : ℕ) (frame : List ℕ) (r
       let see : the_one sends.found ≡ association_of image last e = saw-one image last (securing_wants said spi frame) e f in
       let front = (fronted sends said frame false [] r.answer).0 in
       ap₂ (λ (a : Association) (x : Kind). sent a e x (decided a x)) (sym see) r.kinds
-      ∙ ap (λ (i : Found). sent (the_one sends.found) (index_of i) (kind_said said) (decided (the_one sends.found) (kind_said said))) (sym r.entry)
+      ∙ ap (λ (i : Option ℕ). sent (the_one sends.found) (index_of i) (kind_said said) (decided (the_one sends.found) (kind_said said))) (sym r.entry)
       ∙ ap (sent (the_one sends.found) (securing_entry image said spi frame) (kind_said said)) (sym (past_front sends said frame false _ front))
 
 module _ (image last : List ℕ) (said : Said) (frame : List ℕ) (room : ℕ) where
@@ -95,7 +95,7 @@ module _ (image last : List ℕ) (said : Said) (frame : List ℕ) (room : ℕ) w
   abbrev right : Bool
   right = comparison image last said frame
 
-  pub checking-refused : (a : Answer) → Refuses a (first (front_tests checks said frame true))
+  pub checking-refused : (a : Refusal) → Refuses a (first (front_tests checks said frame true))
       → Refuses a (checking_reply right image last said frame room).answer
   unfolding checking_reply checking checking_tests
   checking-refused a r = rw (stops _ (receiving_tests (held_by checks) (the_one checks.found).number right (kind_said said) frame room) r.some) r
@@ -121,7 +121,7 @@ module _ (image last : List ℕ) (said : Said) (frame : List ℕ) (room : ℕ) w
       let see : the_one checks.found ≡ association_of image last e = saw-one image last (checking_wants said frame) e f in
       let front = (fronted checks said frame true [] r.answer).0 in
       ap₂ (λ (a : Association) (x : Kind). received a e x (judged a x)) (sym see) r.kinds
-      ∙ ap (λ (i : Found). received (the_one checks.found) (index_of i) (kind_said said) (judged (the_one checks.found) (kind_said said))) (sym r.entry)
+      ∙ ap (λ (i : Option ℕ). received (the_one checks.found) (index_of i) (kind_said said) (judged (the_one checks.found) (kind_said said))) (sym r.entry)
       ∙ ap (received (the_one checks.found) (checking_entry image said frame) (kind_said said)) (sym (past_front checks said frame true _ front))
 
 -- ---- the number that a check tells, of the entry that matched and of no other
@@ -130,7 +130,7 @@ module _ (image last : List ℕ) (said : Said) (frame after : List ℕ) where
   abbrev front : ℕ
   front = first (front_tests (seen image last (checking_wants said frame)) said frame true)
 
-  pub told_none : (a : Answer) → Refuses a front → 0 ≡ matched_number image last said frame after
+  pub told_none : (a : Refusal) → Refuses a front → 0 ≡ matched_number image last said frame after
   unfolding matched_number
   told_none a r = rw (ne_eqb front 0 (λ z. omega (arith, r.some)))
 

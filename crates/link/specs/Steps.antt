@@ -6,9 +6,8 @@ use Rattle.kinds.specs.Kinds.{Kind}
 use Rattle.association.specs.Association.{association_of, held_in}
 use Rattle.numbers.specs.declared.numbers.Numbers.{Numbers}
 use Rattle.protection.specs.Protection.{secured_length, secured_frame, number_in, mac_right, clear_length, clear_data}
-use Rattle.judging.specs.Answers.{first}
+use Rattle.judging.specs.Answers.{Answer, first}
 use Rattle.judging.specs.Replies.{Reply, raising, sending_tests, receiving_tests}
-use Rattle.judging.specs.declared.answers.Answer.{Answer}
 use Rattle.link.specs.declared.outcome.Outcome.{Outcome}
 
 -- an answer, and the numbers that come back with it

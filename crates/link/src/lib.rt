@@ -10,22 +10,23 @@ ghost use Rattle.std.specs.Prelude.{[], ◌≡◌};
 ghost use Rattle.link.specs.Calls.{leaving, loaded};
 
 pub use judging::Answer;
-use numbers::{Numbers, Standing};
+use judging::{Done, Refusal};
+use numbers::Numbers;
 pub use outcome::{Outcome, carried_out, refused};
 
 // A load accepts an image and gives the numbers that its marks stand for. It stores nothing.
 pub fn load(image: &[u8], numbers: Numbers) -> Outcome
     ensures { leaving result image.now [] ≡ loaded image.now numbers.last }
 {
-    let given = numbers::load(image, numbers);
-    let standing = given.standing;
-    let back = given.numbers;
-    match standing {
-        Standing::Good => Outcome {
-            answer: Answer::Done(0, 0),
+    let mut back = numbers;
+    match numbers::load(image, &mut back) {
+        Ok(()) => Outcome {
+            answer: Ok(Done {
+                length: 0,
+                stores: 0,
+            }),
             numbers: back,
         },
-        Standing::BadImage => refused(Answer::BadImage, back),
-        Standing::BadMarks => refused(Answer::BadMarks, back),
+        Err(unfit) => refused(Err(Refusal::from(unfit)), back),
     }
 }

@@ -3,9 +3,10 @@ ghost use Rattle.std.specs.Prelude.{◌≡◌, set};
 ghost use Rattle.judging.specs.Answers.{reported, granted};
 ghost use Rattle.link.specs.Steps.{outcome};
 
-use judging::{Answer, Grant};
+use judging::{Answer, Done, Grant};
 use numbers::Numbers;
 
+// The numbers come back by value with every answer, so they stand beside it and not in its `Ok`.
 #[derive(Clone, Copy)]
 pub struct Outcome {
     pub answer: Answer,
@@ -24,7 +25,10 @@ pub fn carried_out(grant: Grant, made: u32, numbers: Numbers) -> Outcome
     ensures { (reported result.answer ≡ granted grant.size made) × (result.numbers.last ≡ set numbers.last grant.entry grant.number) }
 {
     Outcome {
-        answer: Answer::Done(grant.size, made),
+        answer: Ok(Done {
+            length: grant.size,
+            stores: made,
+        }),
         numbers: numbers.advance(grant.entry, grant.number),
     }
 }

@@ -3,17 +3,15 @@
 // and the expected listings from the paper alone.
 #![tactic(auto)]
 
-use lines::{print, read_line, read_octets};
+use lines::{each_line, read_octets};
 use listing_text::{LONGEST, write_listing};
-use octets::octet_at;
 use std::io;
-use std::io::Read;
 use writing::text_in;
 
 fn print_listing(rt: &impl Print, image: &[u8]) -> io::Result<()> {
     let mut text = [0u8; LONGEST];
     let listed = write_listing(image, &mut text);
-    print(rt, text_in(listed, &text))
+    rt.write_all(text_in(listed, &text))
 }
 
 // Room for one key more than the longest image has.
@@ -23,28 +21,16 @@ fn list(rt: &impl Print, line: &[u8]) -> io::Result<()> {
     print_listing(rt, &image[..count])
 }
 
-// Whether there was a line.
-fn run_line(rt: &impl Print, input: &mut impl Read) -> io::Result<bool> {
-    let mut line = [0u8; 6293];
-    let count = read_line(input, &mut line)?;
-    if count == 0 {
-        return Ok(false);
-    }
-    if octet_at(&line[..count], 0) == b'#' {
-        print(rt, &line[..count])?;
-    } else {
-        list(rt, &line[..count])?;
-    }
-    Ok(true)
-}
+// The last line that is read, counted from 0.
+const LAST_LINE: u64 = 65535;
 
-// A proved loop has to end, and nothing says that the input does: the bound is a number of lines that it does not have.
 fn main(rt: HostRuntime) -> io::Result<()> {
-    let mut input = rt.reader();
-    for _ in 0..65536 {
-        if !run_line(&rt, &mut input)? {
-            break;
+    each_line(&mut rt.reader(), &mut [0; 6293], |n, line| {
+        if line.starts_with(b"#") {
+            rt.write_all(line)?;
+        } else {
+            list(&rt, line)?;
         }
-    }
-    Ok(())
+        Ok(n < LAST_LINE)
+    })
 }

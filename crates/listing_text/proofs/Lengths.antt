@@ -15,7 +15,8 @@ use Rattle.image.specs.Image.{count_of, valid_image}
 use Rattle.numbers.specs.Numbers.{greatest}
 use Rattle.image.proofs.ValidImages.{Valid, valid}
 use Rattle.listing_text.specs.Listing.{title, field, fields, next, line, lines, listing}
-use Rattle.writing.specs.Output.{written_to, length_of}
+use Rattle.std.specs.Prelude.{unwrap_or}
+use Rattle.writing.specs.Output.{written_to}
 use Rattle.writing.specs.Text.{digits}
 use Rattle.writing.proofs.Decimals.{digits_short}
 use Rattle.listing_text.proofs.Parts.{length-field, next-number, next-none, listing-valid, listing-refused}
@@ -86,7 +87,7 @@ longest image = by_test (valid_image image) refl
 
 -- an output of that many octets holds, whatever the image, its listing and nothing else
 pub printed : (image out : List ℕ) → 1197 ≤ length out
-    → take (length_of (written_to (listing image) out)) (fronted (listing image) out) ≡ listing image
+    → take (unwrap_or (written_to (listing image) out) 0) (fronted (listing image) out) ≡ listing image
 printed image out room =
     let fits : length (listing image) ≤ length out = omega (arith, longest image) in
     rw (← (all-written (listing image) out fits).0, ← (all-written (listing image) out fits).1)

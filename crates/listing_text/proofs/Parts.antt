@@ -13,9 +13,8 @@ use Rattle.octets.specs.Lists.{octet}
 use Rattle.association.specs.Association.{entry_of}
 use Rattle.image.specs.Image.{count_of, valid_image}
 use Rattle.numbers.specs.Numbers.{greatest}
-use Rattle.association.specs.declared.entry.Entry.{Entry}
 use Rattle.writing.specs.Text.{ascii, decimal}
-use Rattle.listing_text.specs.Listing.{title, field, fields, next, columns, line, lines, listing}
+use Rattle.listing_text.specs.Listing.{title, field, fields, next, line, lines, listing}
 
 -- ---- fields
 
@@ -59,10 +58,6 @@ unfolding next
 next-none mark h = rw (lt-leb (64 * mark + 64) greatest h)
 
 -- ---- lines
-
-pub length-line : (e : Entry) → length (line e) ≡ length (fields (columns e)) + length (next e.mark) + 1
-unfolding line
-length-line e = simp length-append
 
 pub lines_none : (image : List ℕ) → lines image 0 ≡ []
 unfolding lines

@@ -6,6 +6,7 @@ ghost use Rattle.listing_text.specs.Listing.{field, fields};
 use writing::{put_decimal, put_octet};
 
 // A number and the space behind it.
+#[tactic(auto, using(writing::proofs::Puts::put_then), unfolding(crate::specs::Listing::field))]
 fn put_field(out: &mut [u8], at: usize, n: u32) -> usize
     requires { at + length (field n) ≤ length out.old }
     ensures { Put out.old at (field n) out.new result }
@@ -14,15 +15,14 @@ fn put_field(out: &mut [u8], at: usize, n: u32) -> usize
     put_octet(out, behind, b' ')
 }
 
+#[tactic(auto, using(crate::proofs::Parts::fields_within, writing::proofs::Puts::put_none), unfolding(crate::specs::Listing::fields))]
 pub(crate) fn put_fields(out: &mut [u8], at: usize, numbers: [u32; 6]) -> usize
     requires { at + length (fields numbers) ≤ length out.old }
     ensures { Put out.old at (fields numbers) out.new result }
 {
     let mut behind = at;
-    let mut i: usize = 0;
-    while i < 6 {
-        behind = put_field(out, behind, numbers[i]);
-        i += 1;
+    for n in &numbers {
+        behind = put_field(out, behind, *n);
     }
     behind
 }

@@ -1,5 +1,5 @@
 // Document 01, 'Managed numbers', and document 02, requests 5 and 9: octet stores by plan, and the first j of them.
-ghost use Rattle.std.specs.Prelude.{◌≡◌, ◌+◌, ◌-◌, ◌<◌, ◌^◌, min, cond, eqb, length, set};
+ghost use Rattle.std.specs.Prelude.{◌≡◌, ◌+◌, ◌-◌, ◌<◌, ◌^◌, length, set};
 ghost use Rattle.marks.specs.Stores.{flipped_octet, code_octet, store_of, stores_in, store_at, stores_of, first_stores, stored};
 
 use crate::gray::gray_of;
@@ -68,38 +68,8 @@ fn stores_in(plan: Plan) -> u32
         Plan::One(_) => 1,
         Plan::Two(_, _) => 2,
         Plan::Three(_, _, _) => 3,
-        Plan::Raise { at: _, from, to } => less(to, from),
+        Plan::Raise { at: _, from, to } => to.saturating_sub(from),
     }
-}
-
-fn less(to: u32, from: u32) -> u32
-    ensures { result ≡ to - from }
-{
-    if to <= from {
-        return 0;
-    }
-    to - from
-}
-
-fn either(i: u32, first: Store, second: Store) -> Store
-    ensures { result ≡ cond (eqb i 0) first second }
-{
-    if i == 0 {
-        return first;
-    }
-    second
-}
-
-fn one_of(i: u32, first: Store, second: Store, third: Store) -> Store
-    ensures { result ≡ cond (eqb i 0) first (cond (eqb i 1) second third) }
-{
-    if i == 0 {
-        return first;
-    }
-    if i == 1 {
-        return second;
-    }
-    third
 }
 
 fn store_at(plan: Plan, i: u32) -> Store
@@ -109,33 +79,26 @@ fn store_at(plan: Plan, i: u32) -> Store
     match plan {
         Plan::Nothing => Store { at: 0, value: 0 },
         Plan::One(store) => store,
-        Plan::Two(first, second) => either(i, first, second),
-        Plan::Three(first, second, third) => one_of(i, first, second, third),
+        Plan::Two(first, second) => if i == 0 { first } else { second },
+        Plan::Three(first, second, third) => match i {
+            0 => first,
+            1 => second,
+            _ => third,
+        },
         Plan::Raise { at, from, to: _ } => raise_at(at, from + i),
     }
-}
-
-fn lesser(a: u32, b: u32) -> u32
-    ensures { result ≡ min a b }
-{
-    if a <= b {
-        return a;
-    }
-    b
 }
 
 // The first j stores of a plan, in order, and nothing else; how many they are.
 pub fn make(image: &mut [u8], plan: Plan, j: u32) -> u32
     ensures { (result ≡ length (first_stores plan j)) × (image.new ≡ stored image.old (first_stores plan j)) }
 {
-    let count = lesser(j, stores_in(plan));
-    let mut made: u32 = 0;
-    while made < count {
-        let store = store_at(plan, made);
+    let count = j.min(stores_in(plan));
+    for i in 0..count {
+        let store = store_at(plan, i);
         store_octet(image, store.at, store.value);
-        made += 1;
     }
-    made
+    count
 }
 
 // All stores of a plan; how many they are.

@@ -6,11 +6,11 @@ use Prim.Native.Nat.{ℕ, zero, suc, min, ◌≤◌, ◌<◌}
 use native.Mathlib.Nat.{zero-min, min-zero, suc-min-suc}
 use borrow.Author.Tests.{le-leb, lt-leb}
 use lib.ListN.{length, take, drop, length-take}
+use Rattle.std.specs.Prelude.{Some, None}
 use Rattle.octets.specs.Output.{fronted}
 use Rattle.kinds.specs.Kinds.{Kind}
 use Rattle.frame.specs.Parts.{header_of}
 use Rattle.masking.specs.Masked.{masked, masked_header, answered}
-use Rattle.masking.specs.declared.masked.Written.TheVariants as answer
 use Rattle.masking.proofs.Masking.{length-masked, masked-take}
 
 take_min : (n : ℕ) (s : List ℕ) → take (min n (length s)) s ≡ take n s
@@ -33,11 +33,11 @@ module _ (k : Kind) (mask frame old : List ℕ) (count : ℕ) (counted : count �
   unfolding fronted
   without_room short = rw (length-text, lt-leb count (length old) short)
 
-  pub refused : length old < count → answer.NoRoom ≡ answered (masked_header k mask frame) old
+  pub refused : length old < count → None ≡ answered (masked_header k mask frame) old
   unfolding answered
   refused short = rw (length-text, lt-leb count (length old) short)
 
-  pub told : count ≤ length old → answer.Octets count ≡ answered (masked_header k mask frame) old
+  pub told : count ≤ length old → Some count ≡ answered (masked_header k mask frame) old
   unfolding answered
   told room = rw (length-text, le-leb count (length old) room)
 

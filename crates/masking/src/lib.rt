@@ -4,4 +4,4 @@
 
 mod masked;
 
-pub use masked::{Written, mask_header};
+pub use masked::mask_header;

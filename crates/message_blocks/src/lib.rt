@@ -2,16 +2,13 @@
 // here, so that block i is M_(i+1) of the standard.
 #![tactic(auto)]
 
-mod blocks;
-
 ghost use Rattle.std.specs.Prelude.{◌≡◌, ◌++◌, ◌+◌, ◌*◌, ◌^◌, ◌<◌, length};
 ghost use Rattle.octets.specs.Lists.{octet, tab};
 ghost use Rattle.columns.specs.Columns.{state_from};
 ghost use Rattle.message_blocks.specs.Blocks.{block_count, block};
 
-use blocks::xor_blocks;
 use columns::{words_at, words_of};
-use octets::octet_at;
+use octets::{octet_at, xors};
 
 // Octet i of the message, and 0 past its end.
 fn message_octet(head: &[u8], body: &[u8], i: usize) -> u8
@@ -29,23 +26,17 @@ fn gathered(head: &[u8], body: &[u8], i: usize) -> [u8; 16]
     ensures { result ≡ tab 16 (λ j. octet (head.now ++ body.now) (16 * i + j)) }
 {
     let mut out = [0u8; 16];
-    let mut j: usize = 0;
-    while j < 16 {
+    for j in 0..16 {
         out[j] = message_octet(head, body, 16 * i + j);
-        j += 1;
     }
     out
 }
 
-// Step 2: the number of blocks of a message of `length` octets. It is rounded up from below, since `length + 15` can exceed a usize.
+// Step 2: the number of blocks of a message of `length` octets. The empty message has one.
 pub fn block_count(length: usize) -> usize
     ensures { result ≡ block_count length }
 {
-    if length == 0 {
-        1
-    } else {
-        (length - 1) / 16 + 1
-    }
+    length.div_ceil(16).max(1)
 }
 
 // Step 4: block i of the message; the last one is masked by the first subkey if it is complete, and else filled and masked by the second.
@@ -59,10 +50,10 @@ fn message_block(first: [u8; 16], second: [u8; 16], head: &[u8], body: &[u8], i:
         return out;
     }
     if rest == 16 {
-        return xor_blocks(first, out);
+        return xors(first, out);
     }
     out[rest] = 0x80;
-    xor_blocks(second, out)
+    xors(second, out)
 }
 
 // The words of block i. One that lies whole in the body with more after it, as nearly all do, is read by fours, with no test for each octet.

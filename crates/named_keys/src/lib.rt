@@ -41,13 +41,7 @@ fn all_idle(image: &[u8], id: u16) -> bool
     ensures { result ≡ unserved image.now id }
 {
     let count = count_of(image);
-    let mut ok = true;
-    let mut i: u8 = 0;
-    while i < count {
-        ok = ok & idle_at(image, id, i);
-        i += 1;
-    }
-    ok
+    (0..count).fold(true, |ok, i| ok & idle_at(image, id, i))
 }
 
 // Active, and no operational body names it.

@@ -7,15 +7,16 @@ use mathlib.Core.List.{List, []}
 use native.Mathlib.Omega.{arith}
 use borrow.Author.Tests.{eq-eqb, ne_eqb, ltb-false, le-leb}
 use lib.ListN.{length}
+use Rattle.std.specs.Prelude.{Err}
 use Rattle.octets.specs.Numbers.{bytes}
 use Rattle.octets.specs.Output.{written, fronted}
 use Rattle.octets.proofs.Filling.{with_room}
 use Rattle.image.specs.Image.{valid_image}
 use Rattle.numbers.specs.Numbers.{agrees}
 use Rattle.numbers.specs.declared.numbers.Numbers.{Numbers}
-use Rattle.judging.specs.Answers.{Reported, first}
+use Rattle.judging.specs.Answers.{Reported, refusal, first}
 use Rattle.judging.specs.Verdicts.{Refuses}
-use Rattle.judging.specs.declared.answers.Answer.{Answer}
+use Rattle.judging.specs.declared.answers.Refusal.{Refusal}
 use Rattle.judging.proofs.First.{passed}
 use Rattle.link.specs.Calls.{Left, leaving}
 use Rattle.link.specs.Steps.{outcome}
@@ -58,7 +59,7 @@ module _ (log : LentLog) (image : List ℕ) (numbers : Numbers) (desk : ℕ) (co
   abbrev reply : List ℕ
   reply = note_reply log (tag_of command)
 
-  pub refusal-left : (a : Answer) (r : Outcome) → Refuses a answer → r ≡ outcome a numbers
+  pub refusal-left : (a : Refusal) (r : Outcome) → Refuses a answer → r ≡ outcome (Err a) numbers
       → leaving r image output ≡ note_commanded log image numbers.last desk command output
   unfolding note_commanded
   refusal-left a r j e =
@@ -72,7 +73,7 @@ module _ (log : LentLog) (image : List ℕ) (numbers : Numbers) (desk : ℕ) (co
         output = output;
       }
       in
-      ap (λ (x : Outcome). leaving x image output) e ∙ ap of j.answer ∙ rw (ne_eqb answer 0 (λ z. omega (arith, j.some)))
+      ap (λ (x : Outcome). leaving x image output) e ∙ ap (λ (n : ℕ). of (refusal n)) j.answer ∙ rw (ne_eqb answer 0 (λ z. omega (arith, j.some)))
 
   roomy : answer ≡ 0 → fronted reply output ≡ written reply output
   roomy z =

@@ -11,17 +11,10 @@ use crate::replying::reply_size;
 use bodies::KEY_OFFICE;
 use command_form::{measured, value_length};
 use event_log::Log;
-use judging::{Answer, no_desk};
+use judging::{Refusal, no_desk};
 use notes::{DUMP, ERASE};
-use numbers::{Numbers, Standing, test_standing};
+use numbers::{Numbers, test_standing};
 use octets::octet_at;
-
-// The octets of the reply, or the first refusal.
-#[derive(Clone, Copy)]
-pub enum Ruling {
-    Granted(usize),
-    Refused(Answer),
-}
 
 // A number that is no desk's, or a command to the log from another desk than the key office's.
 fn wrong_desk(desk: u8, tag: u8) -> bool
@@ -37,22 +30,28 @@ fn bare(command: &[u8]) -> bool
     measured(command) & (value_length(command) == 0)
 }
 
-// Past 1 and 2: 19, 13 and 6.
-fn judge_within(log: Log, events: &[u8], desk: u8, command: &[u8], room: usize) -> Ruling
+// Past 1 and 2: 19, 13 and 6. The octets of the reply, or the first refusal.
+fn judge_within(
+    log: Log,
+    events: &[u8],
+    desk: u8,
+    command: &[u8],
+    room: usize,
+) -> Result<usize, Refusal>
     ensures { Ruled result (first (desk_tests (lent_log log events.now) desk command.now room)) (length (note_reply (lent_log log events.now) (tag_of command.now))) }
 {
     let tag = octet_at(command, 0);
     if wrong_desk(desk, tag) {
-        return Ruling::Refused(Answer::WrongDesk);
+        return Err(Refusal::WrongDesk);
     }
     if !bare(command) {
-        return Ruling::Refused(Answer::BadCommand);
+        return Err(Refusal::BadCommand);
     }
     let size = reply_size(log, events, tag);
     if room < size {
-        return Ruling::Refused(Answer::NoRoom);
+        return Err(Refusal::NoRoom);
     }
-    Ruling::Granted(size)
+    Ok(size)
 }
 
 pub(crate) fn judge(
@@ -63,13 +62,9 @@ pub(crate) fn judge(
     desk: u8,
     command: &[u8],
     room: usize,
-) -> Ruling
+) -> Result<usize, Refusal>
     ensures { Ruled result (first (note_tests (lent_log log events.now) image.now numbers.last desk command.now room)) (length (note_reply (lent_log log events.now) (tag_of command.now))) }
 {
-    let standing = test_standing(image, numbers);
-    match standing {
-        Standing::BadImage => Ruling::Refused(Answer::BadImage),
-        Standing::BadMarks => Ruling::Refused(Answer::BadMarks),
-        Standing::Good => judge_within(log, events, desk, command, room),
-    }
+    test_standing(image, numbers)?;
+    judge_within(log, events, desk, command, room)
 }

@@ -11,8 +11,8 @@ ghost use Rattle.event_log.specs.Held.{lent_log};
 ghost use Rattle.note_commands.specs.NoteCommands.{for_notes, note_commanded};
 
 use event_log::Log;
-use judged::{Ruling, judge};
-use judging::Answer;
+use judged::judge;
+use judging::Done;
 use link::{Outcome, refused};
 use notes::{ALARM_RESET, DUMP, ERASE};
 use numbers::Numbers;
@@ -38,13 +38,15 @@ pub fn command_notes(
 ) -> Outcome
     ensures { leaving result image.now output.new ≡ note_commanded (lent_log log events.now) image.now numbers.last desk command.now output.old }
 {
-    let ruling = judge(log, events, image, numbers, desk, command, output.len());
-    match ruling {
-        Ruling::Refused(answer) => refused(answer, numbers),
-        Ruling::Granted(size) => {
+    match judge(log, events, image, numbers, desk, command, output.len()) {
+        Err(refusal) => refused(Err(refusal), numbers),
+        Ok(size) => {
             write_reply(log, events, octet_at(command, 0), output);
             Outcome {
-                answer: Answer::Done(size, 0),
+                answer: Ok(Done {
+                    length: size,
+                    stores: 0,
+                }),
                 numbers,
             }
         }

@@ -17,7 +17,7 @@ use Rattle.image.specs.Image.{valid_image}
 use Rattle.numbers.specs.Numbers.{agrees}
 use Rattle.judging.specs.Answers.{first}
 use Rattle.judging.specs.Said.{no_desk}
-use Rattle.judging.specs.declared.answers.Answer.TheVariants as answer
+use Rattle.judging.specs.declared.answers.Refusal.TheVariants as answer
 use Rattle.judging.proofs.First.{passed}
 use Rattle.link.specs.Calls.{Left, refused}
 use Rattle.command_form.specs.Form.{tag_of, value_of, measured}

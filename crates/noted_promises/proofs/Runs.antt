@@ -12,6 +12,7 @@ use borrow.Author.Tests.{lt-ltb, le-ltb}
 use lib.Dec.{eqb}
 use lib.ListN.{length, take, drop, length-append}
 use lib.Seq.{sets, sets-eq, length-sets, take_at, take_all, take-append-le, drop-append-add, drop-drop, length-take-le}
+use Rattle.std.specs.Prelude.{Some, None}
 use Rattle.octets.specs.Lists.{octet}
 use Rattle.event_log.specs.Held.{lent_log, room_for, event, entered_in, erased_in}
 use Rattle.event_log.proofs.Holding.{room_whole}
@@ -19,7 +20,6 @@ use Rattle.notes.specs.Noting.{LentNotes, log_in, holding, noted_command}
 use Rattle.link.proofs.Leaving.{left-answer}
 use Rattle.command_form.specs.Form.{tag_of}
 use Rattle.procedures.specs.Procedures.{procedures, with_tag}
-use Rattle.procedures.specs.declared.procedure.Called.TheVariants as calls
 use Rattle.procedures.proofs.Calling.{called-none}
 use Rattle.commands.specs.Commanding.{command_reply, commanded}
 use Rattle.commands.proofs.Done.{done}
@@ -196,7 +196,7 @@ fresh-counts n f =
 -- ---- beside the notes
 
 -- a command to the notes is no procedure's, so without notes it is refused
-no_procedure_lem : (c : List ℕ) → ForNotes c → with_tag (tag_of c) procedures ≡ calls.Nothing
+no_procedure_lem : (c : List ℕ) → ForNotes c → with_tag (tag_of c) procedures ≡ None
 unfolding with_tag
 no_procedure_lem c (inl (inl e)) = rw e
 no_procedure_lem c (inl (inr e)) = rw e
@@ -207,7 +207,7 @@ module _ (n : LentNotes) (image numbers : List ℕ) (desk : ℕ) (c output : Lis
   unfolding commanded
   refused_plainly own z =
       let d = done image numbers desk c (length output) (sym (left-answer (command_reply image numbers desk c (length output)) image numbers output) ∙ z) in
-      let none : calls.Nothing ≡ calls.Procedure d.procedure = sym (called-none c (no_procedure_lem c own)) ∙ d.calls in
+      let none : None ≡ Some d.procedure = sym (called-none c (no_procedure_lem c own)) ∙ d.calls in
       let z : ◌≡◌ {A = ℕ} 0 1 = cc in
       omega arith
 

@@ -5,7 +5,7 @@
 use Rattle.std.specs.Prelude.{ℕ, ◌+◌, ◌*◌, ◌/◌, ◌≤◌, min, cond, ◌≡◌, List, eqb, length}
 use Rattle.octets.specs.Lists.{octet, Octets}
 use Rattle.octets.specs.Numbers.{number_at}
-use Rattle.judging.specs.declared.answers.Answer.TheVariants as answer
+use Rattle.judging.specs.declared.answers.Refusal.TheVariants as answer
 use Rattle.notes.specs.Noting.{LentNotes}
 use Rattle.noting.specs.Noted.{command_noted}
 use Rattle.promises.specs.Answers.{Rules, rule, no_more, report_of, Exactly}

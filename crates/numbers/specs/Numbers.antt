@@ -1,10 +1,10 @@
 -- Document 01, 'Managed numbers': what a load gives, when numbers agree with the marks, and which numbers may follow.
 -- Assumes nothing.
-use Rattle.std.specs.Prelude.{ℕ, ◌+◌, ◌*◌, ◌/◌, Bool, cond, ◌&&◌, List, eqb, leb, ltb, get_or}
+use Rattle.std.specs.Prelude.{ℕ, ◌+◌, ◌*◌, ◌/◌, Bool, cond, ◌&&◌, List, eqb, leb, ltb, get_or, Result, Ok, Err, ⊤}
 use Rattle.octets.specs.Lists.{tab, all}
 use Rattle.image.specs.Image.{count_of, most_entries, mark_in, valid_image}
-use Rattle.numbers.specs.declared.numbers.Standing.{Standing}
-use Rattle.numbers.specs.declared.numbers.Standing.TheVariants as standing
+use Rattle.numbers.specs.declared.numbers.Unfit.{Unfit}
+use Rattle.numbers.specs.declared.numbers.Unfit.TheVariants as unfit
 
 -- the greatest that a number may be
 abbrev pub greatest : ℕ
@@ -28,23 +28,18 @@ loaded_numbers image = tab most_entries (λ i. cond (ltb i (count_of image)) (lo
 unfoldable pub agrees : List ℕ → List ℕ → Bool
 agrees image last = all (count_of image) (λ i. eqb (number_of last i / 64) (mark_in image i))
 
--- ---- what comes back: answers 0, 1 and 2
-
-abbrev pub standing_number : Standing → ℕ
-standing_number standing.Good = 0
-standing_number standing.BadImage = 1
-standing_number standing.BadMarks = 2
+-- ---- what comes back: fit for a call, answer 0, or not, answers 1 and 2
 
 -- what a load answers, and the numbers that it returns
-abbrev pub load_standing : List ℕ → Standing
-load_standing image = cond (valid_image image) standing.Good standing.BadImage
+abbrev pub load_standing : List ℕ → Result ⊤ Unfit
+load_standing image = cond (valid_image image) (Ok tt) (Err unfit.BadImage)
 
 abbrev pub load_numbers : List ℕ → List ℕ → List ℕ
 load_numbers image last = cond (valid_image image) (loaded_numbers image) last
 
 -- what sending and checking test first
-abbrev pub standing_of : List ℕ → List ℕ → Standing
-standing_of image last = cond (valid_image image) (cond (agrees image last) standing.Good standing.BadMarks) standing.BadImage
+abbrev pub standing_of : List ℕ → List ℕ → Result ⊤ Unfit
+standing_of image last = cond (valid_image image) (cond (agrees image last) (Ok tt) (Err unfit.BadMarks)) (Err unfit.BadImage)
 
 -- ---- the number of a frame
 

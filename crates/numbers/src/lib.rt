@@ -5,5 +5,5 @@
 mod numbers;
 mod stores;
 
-pub use numbers::{Loaded, Numbers, Standing, load, test_standing};
+pub use numbers::{Numbers, Unfit, load, test_standing};
 pub use stores::{plan_for, raise};

@@ -16,18 +16,11 @@ pub struct Numbers {
     pub last: [u32; 32],
 }
 
-// How an image and numbers stand: answers 0, 1 and 2 of the paper.
+// Why an image and numbers are not fit for a call: answers 1 and 2 of the paper.
 #[derive(Clone, Copy)]
-pub enum Standing {
-    Good,
+pub enum Unfit {
     BadImage,
     BadMarks,
-}
-
-#[derive(Clone, Copy)]
-pub struct Loaded {
-    pub standing: Standing,
-    pub numbers: Numbers,
 }
 
 impl Numbers {
@@ -42,13 +35,11 @@ impl Numbers {
     }
 
     // The old set is consumed, and the new one has n for one entry.
-    pub fn advance(self, entry: u8, n: u32) -> Numbers
+    pub fn advance(mut self, entry: u8, n: u32) -> Numbers
         ensures { result.last ≡ set self.last entry n }
     {
         if entry < 32 {
-            let mut next = self;
-            next.last[entry as usize] = n;
-            return next;
+            self.last[entry as usize] = n;
         }
         self
     }
@@ -68,29 +59,22 @@ fn loaded_numbers(image: &[u8]) -> Numbers
 {
     let count = count_of(image);
     let mut next = Numbers { last: [0; 32] };
-    let mut i: u8 = 0;
-    while i < count {
+    for i in 0..count {
         next = next.advance(i, loaded_number(mark_in(image, i)));
-        i += 1;
     }
     next
 }
 
-// A load: every load is a restart. Refused, it hands back the numbers that it was given.
-pub fn load(image: &[u8], numbers: Numbers) -> Loaded
-    ensures standing_value { result.standing ≡ load_standing image.now }
-    ensures last_value { result.numbers.last ≡ load_numbers image.now numbers.last }
+// A load: every load is a restart. Refused, it leaves the numbers as they were.
+pub fn load(image: &[u8], numbers: &mut Numbers) -> Result<(), Unfit>
+    ensures standing_value { result ≡ load_standing image.now }
+    ensures last_value { numbers.new.last ≡ load_numbers image.now numbers.old.last }
 {
     if image_ok(image) {
-        return Loaded {
-            standing: Standing::Good,
-            numbers: loaded_numbers(image),
-        };
+        *numbers = loaded_numbers(image);
+        return Ok(());
     }
-    Loaded {
-        standing: Standing::BadImage,
-        numbers,
-    }
+    Err(Unfit::BadImage)
 }
 
 // The mark that the number asks for is coded, and not the image's mark read: coding is one step, and reading five.
@@ -110,24 +94,22 @@ fn marks_agree(image: &[u8], numbers: Numbers) -> bool
     let layout = layout_of(version_of(image));
     let count = count_of(image);
     let mut ok = true;
-    let mut i: u8 = 0;
-    while i < count {
+    for i in 0..count {
         let last = numbers.last[i as usize];
         ok = ok & agrees_at(image, mark_place(layout, count, i), last);
-        i += 1;
     }
     ok
 }
 
 // Whether the image keeps every rule, and then whether the numbers agree with the marks.
-pub fn test_standing(image: &[u8], numbers: Numbers) -> Standing
+pub fn test_standing(image: &[u8], numbers: Numbers) -> Result<(), Unfit>
     ensures { result ≡ standing_of image.now numbers.last }
 {
-    if image_ok(image) {
-        if marks_agree(image, numbers) {
-            return Standing::Good;
-        }
-        return Standing::BadMarks;
+    if !image_ok(image) {
+        return Err(Unfit::BadImage);
     }
-    Standing::BadImage
+    if !marks_agree(image, numbers) {
+        return Err(Unfit::BadMarks);
+    }
+    Ok(())
 }

@@ -1,6 +1,7 @@
 pub mod Alls
 pub mod Bounds
 pub mod Filling
+pub mod Mapped
 pub mod Numbers
 pub mod Outside
 pub mod Parts

@@ -13,6 +13,7 @@ use lib.Dec.{lit≤, lit<}
 use lib.ListN.{length, drop, get_or-append}
 use lib.Pow.{pow-add}
 use lib.Seq.{get_or-drop, drop_at}
+use Rattle.std.specs.Int.{bytes_high_first}
 use Rattle.octets.specs.Lists.{octet, part, Octets}
 use Rattle.octets.specs.Numbers.{number, number_at, bytes}
 use Rattle.octets.proofs.Bounds.{octets_nil, octets_cons}
@@ -107,6 +108,13 @@ number-bytes (suc k) n h =
     ∙ whole
 
 -- ---- a number and its octets
+
+-- as std writes them
+pub bytes-std : (k n : ℕ) → bytes_high_first k n ≡ bytes k n
+unfolding bytes
+bytes-std zero n = refl
+bytes-std (suc zero) n = ap (λ (x : ℕ). x % 256 ∷ []) (sym (div-one n))
+bytes-std (suc (suc k)) n = ap (λ (l : List ℕ). n / 256 ^ suc k % 256 ∷ l) (bytes-std (suc k) n)
 
 pub octet_powers : (b : ℕ) → 2 ^ (8 * b) ≡ 256 ^ b
 octet_powers zero = refl

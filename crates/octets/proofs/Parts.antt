@@ -3,7 +3,7 @@
 use mathlib.Core.Path.{◌≡◌, ◌∙◌, refl, ap, sym}
 use mathlib.Core.List.{List, [], ◌∷◌, ◌++◌, append-nil, append_assoc}
 use Prim.Native.Nat.{ℕ, zero, suc, ◌+◌, ◌-◌, ◌≤◌, ◌<◌}
-use native.Mathlib.Nat.{add_assoc, add-zero, add-suc, le_refl}
+use native.Mathlib.Nat.{add_assoc, add-zero, add-suc, zero-add, le_refl}
 use native.Mathlib.Omega.{arith}
 use lib.ListN.{length, set, take, drop, length-drop}
 use lib.Seq.{get_or-append-add, take-suc, take-length, get_or-drop, set_at, append_snoc}
@@ -55,6 +55,11 @@ octet-part at n s i h = octet-tab n _ i h
 pub part_same : (at n : ℕ) (s t : List ℕ) → ((i : ℕ) → i < n → octet s (at + i) ≡ octet t (at + i)) → part at n s ≡ part at n t
 unfolding part
 part_same at n s t h = tab_ext n h
+
+-- a list from its front to its end
+pub part_self : (n : ℕ) (s : List ℕ) → length s ≡ n → part 0 n s ≡ s
+unfolding part
+part_self n s e = tab_ext n (λ j k. ap (octet s) (zero-add j)) ∙ ap (λ (m : ℕ). tab m (octet s)) (sym e) ∙ tab_self s
 
 -- a part of a part
 pub part-part : (at n from k : ℕ) (s : List ℕ) → from + k ≤ n → part from k (part at n s) ≡ part (at + from) k s

@@ -3,27 +3,21 @@ ghost use Rattle.std.specs.Prelude.{◌≡◌, ◌++◌, ◌+◌, length, take, 
 ghost use Rattle.octets.specs.Lists.{octet, part};
 ghost use Rattle.octets.specs.Output.{fronted};
 
-// The octet i places behind a place, and 0 past the end. The two are added only where the sum is inside, so it does not wrap.
+use crate::octet_at;
+
+// The octet i places behind a place, and 0 past the end. A sum that does not fit a usize is past the end of any slice.
 pub fn octet_behind(s: &[u8], at: usize, i: usize) -> u8
     ensures { result ≡ octet s.now (at + i) }
 {
-    if s.len() <= at {
-        return 0;
-    }
-    if s.len() - at <= i {
-        return 0;
-    }
-    s[at + i]
+    octet_at(s, at.saturating_add(i))
 }
 
 // As many octets as `out` takes, from a place on.
 pub fn copy_at(s: &[u8], at: usize, out: &mut [u8])
     ensures { out.new ≡ part at (length out.old) s.now }
 {
-    let mut i: usize = 0;
-    while i < out.len() {
+    for i in 0..out.len() {
         out[i] = octet_behind(s, at, i);
-        i += 1;
     }
 }
 
@@ -40,13 +34,8 @@ pub fn block_at(s: &[u8], at: usize) -> [u8; 16]
 pub fn put(piece: &[u8], out: &mut [u8])
     ensures { out.new ≡ fronted piece.now out.old }
 {
-    if out.len() < piece.len() {
-        return;
-    }
-    let mut i: usize = 0;
-    while i < piece.len() {
-        out[i] = piece[i];
-        i += 1;
+    if piece.len() <= out.len() {
+        out[..piece.len()].copy_from_slice(piece);
     }
 }
 

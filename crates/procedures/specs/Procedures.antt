@@ -2,7 +2,7 @@
 -- record: its tag and the length of its value are refusal 13, the states in which it may come 15, the values that it allows 16, the key that
 -- it names 17, and the state of that key 18.
 -- Assumes nothing.
-use Rattle.std.specs.Prelude.{ℕ, ◌+◌, ◌-◌, ◌%◌, Bool, true, false, cond, not, ◌&&◌, ◌||◌, List, [], ◌∷◌, ◌++◌, eqb, leb, length}
+use Rattle.std.specs.Prelude.{ℕ, ◌+◌, ◌-◌, ◌%◌, Bool, true, false, cond, not, ◌&&◌, ◌||◌, List, [], ◌∷◌, ◌++◌, eqb, leb, length, Option, Some, None}
 use Rattle.octets.specs.Lists.{octet}
 use Rattle.octets.specs.Numbers.{bytes}
 use Rattle.marks.specs.declared.plans.Store.{Store}
@@ -17,8 +17,6 @@ use Rattle.numbers.specs.Stores.{stores_for}
 use Rattle.command_form.specs.Channels.{channels_right}
 use Rattle.command_form.specs.Form.{tag_of, value_of, measured, spi_length, spi_named, window_length, window_asked, key_id_length, key_asked, key_named}
 use Rattle.command_form.specs.Form.{first_named, last_named, channel_length, number_length, number_asked, number_behind_key, reply_to}
-use Rattle.procedures.specs.declared.procedure.Called.{Called}
-use Rattle.procedures.specs.declared.procedure.Called.TheVariants as calls
 use Rattle.procedures.specs.declared.procedure.Procedure as code
 use Rattle.procedures.specs.declared.procedure.Procedure.TheVariants as procedure
 
@@ -297,22 +295,22 @@ abbrev pub key_command : ℕ → Bool
 key_command tag = eqb tag activation.tag || eqb tag deactivation.tag || eqb tag key_inventory.tag
 
 -- the one of a list that has a tag
-unfoldable pub with_tag : ℕ → List code.Procedure → Called
-with_tag tag [] = calls.Nothing
-with_tag tag (p ∷ ps) = cond (eqb tag (procedure_is p).tag) (calls.Procedure p) (with_tag tag ps)
+unfoldable pub with_tag : ℕ → List code.Procedure → Option code.Procedure
+with_tag tag [] = None
+with_tag tag (p ∷ ps) = cond (eqb tag (procedure_is p).tag) (Some p) (with_tag tag ps)
 
-abbrev pub procedure_behind : Called → Procedure
-procedure_behind (calls.Procedure p) = procedure_is p
-procedure_behind calls.Nothing = no_procedure
+abbrev pub procedure_behind : Option code.Procedure → Procedure
+procedure_behind (Some p) = procedure_is p
+procedure_behind None = no_procedure
 
 -- refusal 13: by its tag, where its length is right; else it calls none
-abbrev pub sized_for : Called → ℕ → Bool
+abbrev pub sized_for : Option code.Procedure → ℕ → Bool
 sized_for called n = (procedure_behind called).sized n
 
-unfoldable pub called : List ℕ → Called
+unfoldable pub called : List ℕ → Option code.Procedure
 called command =
     let x = with_tag (tag_of command) procedures in
-    cond (measured command && sized_for x (length (value_of command))) x calls.Nothing
+    cond (measured command && sized_for x (length (value_of command))) x None
 
 abbrev pub procedure_of : List ℕ → Procedure
 procedure_of command = procedure_behind (called command)

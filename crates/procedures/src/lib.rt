@@ -6,5 +6,5 @@
 mod procedure;
 mod tags;
 
-pub use procedure::{Called, Procedure};
+pub use procedure::Procedure;
 pub use tags::{called_by, key_command};

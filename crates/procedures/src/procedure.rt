@@ -22,30 +22,24 @@ pub enum Procedure {
     Inventory,
 }
 
-#[derive(Clone, Copy)]
-pub enum Called {
-    Procedure(Procedure),
-    Nothing,
-}
-
 // The procedure that has a tag, if one has it.
-pub(crate) fn with_tag(tag: u8) -> Called
+pub(crate) fn with_tag(tag: u8) -> Option<Procedure>
     ensures { result ≡ with_tag tag procedures }
 {
     match tag {
-        0x1B => Called::Procedure(Procedure::Start),
-        0x1E => Called::Procedure(Procedure::Stop),
-        0x16 => Called::Procedure(Procedure::Rekey),
-        0x19 => Called::Procedure(Procedure::Expire),
-        0x1A => Called::Procedure(Procedure::SetNumber),
-        0x15 => Called::Procedure(Procedure::SetWindow),
-        0x1F => Called::Procedure(Procedure::Status),
-        0x10 => Called::Procedure(Procedure::ReadNumber),
-        0x31 => Called::Procedure(Procedure::Ping),
-        0x02 => Called::Procedure(Procedure::Activation),
-        0x03 => Called::Procedure(Procedure::Deactivation),
-        0x07 => Called::Procedure(Procedure::Inventory),
-        _ => Called::Nothing,
+        0x1B => Some(Procedure::Start),
+        0x1E => Some(Procedure::Stop),
+        0x16 => Some(Procedure::Rekey),
+        0x19 => Some(Procedure::Expire),
+        0x1A => Some(Procedure::SetNumber),
+        0x15 => Some(Procedure::SetWindow),
+        0x1F => Some(Procedure::Status),
+        0x10 => Some(Procedure::ReadNumber),
+        0x31 => Some(Procedure::Ping),
+        0x02 => Some(Procedure::Activation),
+        0x03 => Some(Procedure::Deactivation),
+        0x07 => Some(Procedure::Inventory),
+        _ => None,
     }
 }
 

@@ -3,7 +3,7 @@ ghost use Rattle.std.specs.Prelude.{◌≡◌};
 ghost use Rattle.command_form.specs.Form.{tag_of};
 ghost use Rattle.procedures.specs.Procedures.{key_command, called};
 
-use crate::procedure::{Called, with_tag};
+use crate::procedure::{Procedure, with_tag};
 use command_form::{measured, value_length};
 use octets::octet_at;
 
@@ -16,17 +16,12 @@ pub fn key_command(command: &[u8]) -> bool
 }
 
 // By the command's tag, where its length is right.
-pub fn called_by(command: &[u8]) -> Called
+pub fn called_by(command: &[u8]) -> Option<Procedure>
     ensures { result ≡ called command.now }
 {
-    let found = with_tag(octet_at(command, 0));
-    match found {
-        Called::Procedure(procedure) => {
-            if measured(command) & procedure.sized(value_length(command)) {
-                return Called::Procedure(procedure);
-            }
-            Called::Nothing
-        }
-        Called::Nothing => Called::Nothing,
+    let procedure = with_tag(octet_at(command, 0))?;
+    if measured(command) & procedure.sized(value_length(command)) {
+        return Some(procedure);
     }
+    None
 }

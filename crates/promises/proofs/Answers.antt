@@ -10,6 +10,7 @@ use native.Mathlib.Omega.{arith}
 use borrow.Author.Tests.{eqb-true, ltb-true, ltb-false, leb-true, leb-false, not-true, not-false, lt-ltb, le-leb}
 use lib.Dec.{eqb, ltb}
 use lib.ListN.{length}
+use Rattle.std.specs.Prelude.{Err}
 use Rattle.octets.specs.Lists.{Octets}
 use Rattle.octets.specs.Same.{same}
 use Rattle.octets.proofs.Alls.{and_left, and_right}
@@ -35,8 +36,8 @@ use Rattle.services.specs.SecurityHeader.{security_length}
 use Rattle.protection.specs.Protection.{secured_length, number_in, text_in, mac_right, clear_length}
 use Rattle.judging.specs.Replies.{seen, securing_tests, securing, checking_tests, checking}
 use Rattle.judging.specs.Said.{Said, kind_said, no_desk}
-use Rattle.judging.specs.declared.answers.Answer.{Answer}
-use Rattle.judging.specs.declared.answers.Answer.TheVariants as answer
+use Rattle.judging.specs.declared.answers.Refusal.{Refusal}
+use Rattle.judging.specs.declared.answers.Refusal.TheVariants as answer
 use Rattle.link.proofs.Leaving.{left-answer}
 use Rattle.judging.proofs.Searches.{Finds, finds, finds_none}
 use Rattle.promises.specs.Answers.{reporting, Rules, rule, no_more, report_of, Gives, Exactly}
@@ -63,16 +64,12 @@ alone (rule refusal kept behind) x y (inr a) (inr b) = alone behind x y a.1 b.1
 -- ---- by number alone
 
 unfoldable pub Numbered : Rules → ℕ → Type 0
-Numbered (rule refusal kept behind) n = ((kept → ⊥) × (n ≡ (reported refusal).number)) ⊎ (kept × Numbered behind n)
+Numbered (rule refusal kept behind) n = ((kept → ⊥) × (n ≡ (reported (Err refusal)).number)) ⊎ (kept × Numbered behind n)
 Numbered no_more n = n ≡ 0
 
--- whether every rule refuses: with a number above 0, length 0 and 0 stores
+-- whether every rule refuses with a number above 0
 abbrev pub refusing : Rules → Bool
-refusing (rule refusal kept behind) =
-    ltb 0 (reported refusal).number
-    && eqb (reported refusal).length 0
-    && eqb (reported refusal).stores 0
-    && refusing behind
+refusing (rule refusal kept behind) = ltb 0 (reported (Err refusal)).number && refusing behind
 refusing no_more = true
 
 -- a call that is not done reports nothing but its number, so the number decides what it reports
@@ -83,12 +80,9 @@ reports : (rules : Rules) (x : Left) → Silent x → refusing rules ≡ true �
 unfolding Gives Numbered
 reports no_more x silent r z = ap (λ (n : ℕ). reporting n x.length x.stores) z
 reports (rule refusal kept behind) x silent r (inl b) =
-    let above : 0 < (reported refusal).number = ltb-true 0 (reported refusal).number (search (and_left, and_right)) in
+    let above : 0 < (reported (Err refusal)).number = ltb-true 0 (reported (Err refusal)).number (search and_left) in
     let zeros = silent (λ z. omega (arith, b.1)) in
-    let v = reported refusal in
-    let long = eqb-true v.length 0 (search (and_left, and_right)) in
-    let stores = eqb-true v.stores 0 (search (and_left, and_right)) in
-    let whole : report_of x ≡ reporting v.number v.length v.stores = cc (b.1, zeros.0, zeros.1) in
+    let whole : report_of x ≡ reported (Err refusal) = λ i. reporting (b.1 i) (zeros.0 i) (zeros.1 i) in
     inl (b.0, whole)
 reports (rule refusal kept behind) x silent r (inr b) = inr (b.0, reports behind x silent (search and_right) b.1)
 
@@ -99,16 +93,16 @@ exactly rules x silent r numbered =
 
 -- ---- a test and its rule
 
-pub step : (refusal : Answer) (broken : Bool) (tests : List Test) (kept : Type 0) (behind : Rules) → (broken ≡ true → kept → ⊥)
+pub step : (refusal : Refusal) (broken : Bool) (tests : List Test) (kept : Type 0) (behind : Rules) → (broken ≡ true → kept → ⊥)
     → (broken ≡ false → kept × Numbered behind (first tests))
-    → Numbered (rule refusal kept behind) (first (((reported refusal).number, broken) ∷ tests))
+    → Numbered (rule refusal kept behind) (first (((reported (Err refusal)).number, broken) ∷ tests))
 unfolding first Numbered
 step refusal true tests kept behind breaks keeps = inl (breaks refl, refl)
 step refusal false tests kept behind breaks keeps = inr (keeps refl)
 
-pub next-rule : (refusal : Answer) (broken : Bool) (tests : List Test) (kept : Type 0) (behind : Rules) → (broken ≡ true → kept → ⊥)
+pub next-rule : (refusal : Refusal) (broken : Bool) (tests : List Test) (kept : Type 0) (behind : Rules) → (broken ≡ true → kept → ⊥)
     → (broken ≡ false → kept) → Numbered behind (first tests)
-    → Numbered (rule refusal kept behind) (first (((reported refusal).number, broken) ∷ tests))
+    → Numbered (rule refusal kept behind) (first (((reported (Err refusal)).number, broken) ∷ tests))
 next-rule refusal broken tests kept behind breaks keeps then = step refusal broken tests kept behind breaks (λ t. (keeps t, then))
 
 pub last_done : Numbered no_more (first [])

@@ -12,6 +12,7 @@ use lib.Bits.{bit_and}
 use lib.Dec.{eqb, ltb}
 use lib.ListN.{length, take}
 use lib.Seq.{get_or-take, length-take-le, ext_get_or}
+use Rattle.std.specs.Prelude.{Some, None}
 use Rattle.octets.specs.Lists.{octet}
 use Rattle.octets.proofs.Alls.{and_left, and_right}
 use Rattle.octets.proofs.Rules.{length-tab, octet-tab}
@@ -21,7 +22,6 @@ use Rattle.headers.specs.Telemetry.{secondary_rules, tm_header}
 use Rattle.kinds.specs.Kinds.{Kind, telecommand, tm, aos, no_kind, kind_behind, kind_of, named}
 use Rattle.masking.specs.Masked.{masked}
 use Rattle.kinds.specs.declared.kinds.Kind.TheVariants as kind
-use Rattle.kinds.specs.declared.kinds.Named.TheVariants as answer
 use Rattle.kinds.proofs.Kept.{tc-other, tc-two, tc-three}
 use Rattle.masking.proofs.Masking.{octet_reached, octet_beyond, length-masked}
 use Rattle.promises.specs.Forms.{Form, TcHeader, tc_secured_octet, tc_form, SecondaryHeader}
@@ -183,8 +183,8 @@ described number = by_test (eqb number 1) (eqb number 2) (eqb number 3) (eqb num
   where
     by_test : (a b c d : Bool)
         → Describes (cond a plain_tc_form (cond b segmented_tc_form (cond c tm_form (cond d aos_form no_form))))
-        (kind_behind (cond a (answer.Kind kind.Tc) (cond b (answer.Kind kind.SegmentedTc)
-        (cond c (answer.Kind kind.Tm) (cond d (answer.Kind kind.Aos) answer.Nothing)))))
+        (kind_behind (cond a (Some kind.Tc) (cond b (Some kind.SegmentedTc)
+        (cond c (Some kind.Tm) (cond d (Some kind.Aos) None)))))
     by_test true b c d = tc_describes 5 0 (λ frame. 0) (omega arith)
     by_test false true c d = tc_describes 6 63 (λ frame. octet frame 5 % 64) (omega arith)
     by_test false false true d = tm_describes

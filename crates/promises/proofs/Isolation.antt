@@ -7,6 +7,7 @@ use mathlib.Core.Bool.{Bool, true, false, true≢false}
 use mathlib.Core.List.{List}
 use native.Mathlib.Decide.{ℕ_discrete}
 use lib.ListN.{length}
+use Rattle.std.specs.Prelude.{Some}
 use Rattle.octets.proofs.Parts.{length_part}
 use Rattle.association.specs.Association.{naming_of, association_of, held, held_in, is_none, the_one, matching, index_of}
 use Rattle.numbers.specs.Numbers.{agrees}
@@ -14,7 +15,6 @@ use Rattle.bodies.specs.Layout.{layout_of}
 use Rattle.image.specs.Image.{version_of, count_of, body_of, key_of, valid_image, mark_in}
 use Rattle.association.specs.Search.{matches, entry_for}
 use Rattle.numbers.specs.Stores.{stores_for}
-use Rattle.association.specs.declared.search.Found.TheVariants as found
 use Rattle.association.specs.declared.search.Wanted.{Wanted}
 use Rattle.association.proofs.Finding.{found-matching}
 use Rattle.image.proofs.ValidImages.{valid}
@@ -105,7 +105,7 @@ module _ (s l t r : List ℕ) (here : Standing s l) (there : Standing t r) (dire
   tested image numbers g = rules-valid image g.octets g.valid
 
   pub entry_of : (image numbers : List ℕ) → Standing image numbers → (i : ℕ) → Serves image direction said spi frame i
-      → entry_for image w ≡ found.At i
+      → entry_for image w ≡ Some i
   entry_of image numbers g i serves =
       found-matching image (valid image (tested image numbers g)) w i serves.entry (served image direction said spi frame i serves)
 

@@ -3,13 +3,13 @@
 -- one, or tests in another order is not the one that is promised. An answer's number and values are those that `reported` gives it, the
 -- definition by which the code's answers are read, and it is the paper's table. It supposes only that the image's numbers are octets.
 -- Assumes nothing.
-use Rattle.std.specs.Prelude.{ℕ, ◌+◌, ◌≤◌, ◌<◌, ◌⊎◌, ◌≡◌, List, length}
+use Rattle.std.specs.Prelude.{ℕ, ◌+◌, ◌≤◌, ◌<◌, ◌⊎◌, ◌≡◌, List, length, Ok, Err}
 use Rattle.octets.specs.Lists.{Octets}
 use Rattle.judging.specs.Answers.{Reported, reported}
 use Rattle.link.specs.Calls.{Left, loaded, secured, checked}
 use Rattle.judging.specs.Said.{Said}
-use Rattle.judging.specs.declared.answers.Answer.{Answer}
-use Rattle.judging.specs.declared.answers.Answer.TheVariants as answer
+use Rattle.judging.specs.declared.answers.Refusal.{Refusal}
+use Rattle.judging.specs.declared.answers.Refusal.TheVariants as answer
 use Rattle.promises.specs.Forms.{form_said}
 use Rattle.promises.specs.Images.{ImageRules, Agreeing, InWindow, Serves, shape_in, service_at, window_at, mask_at, key_octets_at, last_at}
 use Rattle.promises.specs.Frames.{FrameRules, RightField, Opens, header_size, trailer_size, security_size, spi_on, number_on, text_on, mac_on}
@@ -21,31 +21,31 @@ abbrev pub reporting : ℕ → ℕ → ℕ → Reported
 reporting number length stores = record { number = number; length = length; stores = stores }
 
 pub record Table : Type 0 where
-  pub zero : (length stores : ℕ) → reported (answer.Done length stores) ≡ reporting 0 length stores
-  pub one : reported answer.BadImage ≡ reporting 1 0 0
-  pub two : reported answer.BadMarks ≡ reporting 2 0 0
-  pub three : reported answer.BadFrame ≡ reporting 3 0 0
-  pub four : reported answer.NoEntry ≡ reporting 4 0 0
-  pub five : reported answer.TooShort ≡ reporting 5 0 0
-  pub six : reported answer.NoRoom ≡ reporting 6 0 0
-  pub seven : reported answer.WrongMac ≡ reporting 7 0 0
-  pub eight : reported answer.OutsideWindow ≡ reporting 8 0 0
-  pub ten : reported answer.NumbersSpent ≡ reporting 10 0 0
-  pub eleven : reported answer.TooLong ≡ reporting 11 0 0
-  pub twelve : reported answer.WrongCheckField ≡ reporting 12 0 0
-  pub thirteen : reported answer.BadCommand ≡ reporting 13 0 0
-  pub fourteen : reported answer.UnknownSpi ≡ reporting 14 0 0
-  pub fifteen : reported answer.WrongState ≡ reporting 15 0 0
-  pub sixteen : reported answer.BadValue ≡ reporting 16 0 0
-  pub seventeen : reported answer.UnknownKey ≡ reporting 17 0 0
-  pub eighteen : reported answer.WrongKeyState ≡ reporting 18 0 0
-  pub nineteen : reported answer.WrongDesk ≡ reporting 19 0 0
+  pub zero : (length stores : ℕ) → reported (Ok (record { length = length; stores = stores })) ≡ reporting 0 length stores
+  pub one : reported (Err answer.BadImage) ≡ reporting 1 0 0
+  pub two : reported (Err answer.BadMarks) ≡ reporting 2 0 0
+  pub three : reported (Err answer.BadFrame) ≡ reporting 3 0 0
+  pub four : reported (Err answer.NoEntry) ≡ reporting 4 0 0
+  pub five : reported (Err answer.TooShort) ≡ reporting 5 0 0
+  pub six : reported (Err answer.NoRoom) ≡ reporting 6 0 0
+  pub seven : reported (Err answer.WrongMac) ≡ reporting 7 0 0
+  pub eight : reported (Err answer.OutsideWindow) ≡ reporting 8 0 0
+  pub ten : reported (Err answer.NumbersSpent) ≡ reporting 10 0 0
+  pub eleven : reported (Err answer.TooLong) ≡ reporting 11 0 0
+  pub twelve : reported (Err answer.WrongCheckField) ≡ reporting 12 0 0
+  pub thirteen : reported (Err answer.BadCommand) ≡ reporting 13 0 0
+  pub fourteen : reported (Err answer.UnknownSpi) ≡ reporting 14 0 0
+  pub fifteen : reported (Err answer.WrongState) ≡ reporting 15 0 0
+  pub sixteen : reported (Err answer.BadValue) ≡ reporting 16 0 0
+  pub seventeen : reported (Err answer.UnknownKey) ≡ reporting 17 0 0
+  pub eighteen : reported (Err answer.WrongKeyState) ≡ reporting 18 0 0
+  pub nineteen : reported (Err answer.WrongDesk) ≡ reporting 19 0 0
 
 -- ---- the first rule that is broken
 
 -- rules in their order, each with the answer to a call that breaks it and what it asks
 pub data Rules : Type 1 where
-  rule : Answer → Type 0 → Rules → Rules
+  rule : Refusal → Type 0 → Rules → Rules
   no_more : Rules
 
 abbrev pub report_of : Left → Reported
@@ -54,8 +54,8 @@ report_of x = reporting x.answer x.length x.stores
 -- what they have a call report: a rule that is broken gives its answer, and behind one that is kept the next decides; where all are kept,
 -- it is done
 unfoldable pub Gives : Rules → Reported → Type 0
-Gives (rule refusal kept behind) report = ((kept → ⊥) × (report ≡ reported refusal)) ⊎ (kept × Gives behind report)
-Gives no_more report = report ≡ reported (answer.Done report.length report.stores)
+Gives (rule refusal kept behind) report = ((kept → ⊥) × (report ≡ reported (Err refusal))) ⊎ (kept × Gives behind report)
+Gives no_more report = report ≡ reported (Ok (record { length = report.length; stores = report.stores }))
 
 -- they give this answer and no other
 pub record Exactly (rules : Rules) (report : Reported) : Type 0 where

@@ -2,11 +2,12 @@
 -- Assumes nothing.
 use Prim.Native.Nat.{ℕ, ◌/◌, ◌%◌, ◌^◌, ◌<◌}
 use mathlib.Core.Path.{◌≡◌, sym, ap, ◌∙◌}
-use mathlib.Core.List.{List, [], ◌++◌}
+use mathlib.Core.List.{List, [], ◌∷◌, ◌++◌}
 use native.Mathlib.Nat.{div-one, zero-add}
 use native.Mathlib.Omega.{arith}
 use borrow.Author.Tests.{le-leb}
 use lib.ListN.{length, set, replicate}
+use borrow.Rule.Slice.PartMut.{put_mid}
 use Rattle.octets.specs.Numbers.{bytes}
 use Rattle.octets.specs.Output.{fronted}
 use Rattle.octets.proofs.Numbers.{bytes-append}
@@ -20,11 +21,11 @@ pub fronted-none : (out : List ℕ) → out ≡ fronted [] out
 unfolding fronted
 fronted-none out = rw (le-leb 0 (length out) (omega arith))
 
--- the array of the code, octet by octet
+-- the array of the code: tag, length, and the octets of SPI and number in their places
 abbrev pub number_array : ℕ → ℕ → List ℕ
 number_array spi n =
-    set (set (set (set (set (set (set (set (replicate 17 0) 0 0x90) 2 14) 3 (spi / 256 % 256)) 4 (spi % 256)) 13 (n / 16777216 % 256))
-    14 (n / 65536 % 256)) 15 (n / 256 % 256)) 16 (n % 256)
+    put_mid 13 4 (put_mid 3 2 (set (set (replicate 17 0) 0 0x90) 2 14) (spi / 256 % 256 ∷ spi % 256 ∷ []))
+    (n / 16777216 % 256 ∷ n / 65536 % 256 ∷ n / 256 % 256 ∷ n % 256 ∷ [])
 
 short : (spi n : ℕ) → number_array spi n ≡ reply_to 0x10 (bytes 2 spi ++ (bytes 8 0 ++ bytes 4 n))
 unfolding bytes

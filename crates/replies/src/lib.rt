@@ -67,14 +67,8 @@ pub fn state_at(image: &[u8], entry: u8) -> u8
 fn status_reply(spi: u16, state: u8) -> [u8; 6]
     ensures { result ≡ reply_to 0x1F (bytes spi_length spi ++ (state ∷ [])) }
 {
-    [
-        0x9F,
-        0,
-        3,
-        (spi / 256 % 256) as u8,
-        (spi % 256) as u8,
-        state,
-    ]
+    let [high, low] = spi.to_be_bytes();
+    [0x9F, 0, 3, high, low, state]
 }
 
 fn write_status(image: &[u8], entry: u8, value: &[u8], output: &mut [u8])
@@ -92,12 +86,8 @@ fn number_reply(spi: u16, last: u32) -> [u8; 17]
     let mut reply: [u8; NUMBER] = [0; NUMBER];
     reply[0] = 0x90;
     reply[2] = 14;
-    reply[3] = (spi / 256 % 256) as u8;
-    reply[4] = (spi % 256) as u8;
-    reply[13] = (last / 16777216 % 256) as u8;
-    reply[14] = (last / 65536 % 256) as u8;
-    reply[15] = (last / 256 % 256) as u8;
-    reply[16] = (last % 256) as u8;
+    reply[3..5].copy_from_slice(&spi.to_be_bytes());
+    reply[13..].copy_from_slice(&last.to_be_bytes());
     reply
 }
 

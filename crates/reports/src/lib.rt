@@ -55,11 +55,11 @@ impl Reports {
     {
         if desk < DESKS {
             let at = REPORT * (desk as usize);
-            let spi = report.spi;
+            let [high, low] = report.spi.to_be_bytes();
             let mut next = self;
             next.octets[at] = report.first_octet();
-            next.octets[at + 1] = (spi / 256 % 256) as u8;
-            next.octets[at + 2] = (spi % 256) as u8;
+            next.octets[at + 1] = high;
+            next.octets[at + 2] = low;
             next.octets[at + 3] = report.number;
             return next;
         }

@@ -13,7 +13,7 @@ use lib.ListN.{length, length-append}
 use Rattle.octets.proofs.Alls.{and_left, and_right}
 use Rattle.bodies.specs.Body.{body_ok}
 use Rattle.image.specs.Image.{version_of, count_of, spi_of, position_of, layout}
-use Rattle.salvage_entries.specs.Tests.{some_of}
+use Rattle.std.specs.List.{list_any}
 use Rattle.salvage_entries.specs.Kept.{body_there, keepable, kept_among, is_kept}
 use Rattle.salvage_entries.proofs.Members.{In}
 use Rattle.salvage_entries.proofs.TestLaws.{or_false, some_last}
@@ -39,14 +39,14 @@ ltb_more j n other = by_place (dec_lt j n)
     by_place (no g) = le-ltb j n (omega arith) ∙ sym (le-ltb j (suc n) (omega (arith, other)))
 
 -- one of the first n is kept as it was when its turn came
-pub kept_rule : (x : List ℕ) (n j : ℕ) → some_of (λ h. eqb h j) (kept_among x n) ≡ (ltb j n && keepable x (kept_among x j) j)
-unfolding kept_among some_of
+pub kept_rule : (x : List ℕ) (n j : ℕ) → list_any (λ h. eqb h j) (kept_among x n) ≡ (ltb j n && keepable x (kept_among x j) j)
+unfolding kept_among
 kept_rule x zero j = simp (le-ltb j 0 (omega arith))
 kept_rule x (suc n) j = by_place (ℕ_discrete j n) (keepable x (kept_among x n) n) refl (kept_rule x n j)
   where
     by_place : Dec (j ≡ n) → (t : Bool) → keepable x (kept_among x n) n ≡ t
-        → some_of (λ h. eqb h j) (kept_among x n) ≡ (ltb j n && keepable x (kept_among x j) j)
-        → some_of (λ h. eqb h j) (cond t (kept_among x n ++ (n ∷ [])) (kept_among x n)) ≡ (ltb j (suc n) && keepable x (kept_among x j) j)
+        → list_any (λ h. eqb h j) (kept_among x n) ≡ (ltb j n && keepable x (kept_among x j) j)
+        → list_any (λ h. eqb h j) (cond t (kept_among x n ++ (n ∷ [])) (kept_among x n)) ≡ (ltb j (suc n) && keepable x (kept_among x j) j)
     by_place (yes here) true k e =
         some_last (λ h. eqb h j) (kept_among x n) n
         ∙ rw (e, le-ltb j n (omega arith), lt-ltb j (suc n) (omega arith), eq-eqb n j (sym here))
@@ -91,6 +91,6 @@ good x before i e =
       body = search (and_left, and_right) depth 9;
     }
 
-pub spi_new_lem : (x before : List ℕ) (i : ℕ) → keepable x before i ≡ true → some_of (λ h. eqb (spi_of x h) (spi_of x i)) before ≡ false
+pub spi_new_lem : (x before : List ℕ) (i : ℕ) → keepable x before i ≡ true → list_any (λ h. eqb (spi_of x h) (spi_of x i)) before ≡ false
 unfolding keepable
-spi_new_lem x before i e = not-true (some_of (λ h. eqb (spi_of x h) (spi_of x i)) before) (search (and_left, and_right) depth 9)
+spi_new_lem x before i e = not-true (list_any (λ h. eqb (spi_of x h) (spi_of x i)) before) (search (and_left, and_right) depth 9)

@@ -2,7 +2,7 @@
 ghost use Rattle.std.specs.Prelude.{◌≡◌, ◌≤◌, eqb, length, take};
 ghost use Rattle.bodies.specs.Body.{body_ok};
 ghost use Rattle.image.specs.Image.{version_of, spi_of, position_of};
-ghost use Rattle.salvage_entries.specs.Tests.{some_of};
+ghost use Rattle.std.specs.List.{list_any};
 ghost use Rattle.salvage_entries.specs.Kept.{is_whole, spi_allowed, at_place, body_inside, body_there, keepable, kept_entries};
 
 use bodies::{body_ok, layout_of};
@@ -18,34 +18,7 @@ fn is_whole(x: &[u8], index: u8) -> bool
 fn spi_allowed(x: &[u8], index: u8) -> bool
     ensures { result ≡ spi_allowed x.now index }
 {
-    let spi = spi_of(x, index);
-    (1 <= spi) & (spi <= 65534)
-}
-
-// Whether one of the entries has an SPI.
-fn has_spi(x: &[u8], entries: &[u8], spi: u16) -> bool
-    ensures { result ≡ some_of (λ h. eqb (spi_of x.now h) spi) entries.now }
-{
-    let mut found = false;
-    let mut i: usize = 0;
-    while i < entries.len() {
-        found = found | (spi_of(x, entries[i]) == spi);
-        i += 1;
-    }
-    found
-}
-
-// Whether one of the entries has a position.
-fn has_position(x: &[u8], entries: &[u8], position: u16) -> bool
-    ensures { result ≡ some_of (λ h. eqb (position_of x.now h) position) entries.now }
-{
-    let mut found = false;
-    let mut i: usize = 0;
-    while i < entries.len() {
-        found = found | (position_of(x, entries[i]) == position);
-        i += 1;
-    }
-    found
+    (1..=65534).contains(&spi_of(x, index))
 }
 
 // Its position is one of the k places of bodies.
@@ -53,14 +26,7 @@ fn at_place(x: &[u8], index: u8) -> bool
     ensures { result ≡ at_place x.now index }
 {
     let position = position_of(x, index);
-    let count = count_of(x);
-    let mut found = false;
-    let mut i: u8 = 0;
-    while i < count {
-        found = found | (body_at(x, i) == position);
-        i += 1;
-    }
-    found
+    (0..count_of(x)).any(|i| body_at(x, i) == position)
 }
 
 // The body there was read whole.
@@ -80,29 +46,29 @@ fn body_obeys(x: &[u8], index: u8) -> bool
 fn keepable(x: &[u8], before: &[u8], index: u8) -> bool
     ensures { result ≡ keepable x.now before.now index }
 {
+    let spi = spi_of(x, index);
+    let position = position_of(x, index);
     is_whole(x, index)
         & spi_allowed(x, index)
-        & !has_spi(x, before, spi_of(x, index))
+        & !before.iter().any(|&h| spi_of(x, h) == spi)
         & at_place(x, index)
         & body_inside(x, index)
-        & !has_position(x, before, position_of(x, index))
+        & !before.iter().any(|&h| position_of(x, h) == position)
         & body_obeys(x, index)
 }
 
 // The entries that are kept, in contents order, to the front of `kept`; the answer is how many they are.
+#[tactic(auto, using(crate::proofs::Gathering::gathered_none))]
 pub fn keep_entries(x: &[u8], kept: &mut [u8]) -> usize
     requires { 255 ≤ length kept.old }
     ensures { (result ≤ length kept.new) × (take result kept.new ≡ kept_entries x.now) }
 {
-    let entries = count_of(x);
-    let mut count: usize = 0;
-    let mut i: u8 = 0;
-    while i < entries {
+    let mut count = 0;
+    for i in 0..count_of(x) {
         if keepable(x, &kept[..count], i) {
             kept[count] = i;
             count += 1;
         }
-        i += 1;
     }
     count
 }

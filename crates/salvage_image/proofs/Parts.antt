@@ -2,7 +2,7 @@
 -- Assumes nothing.
 use mathlib.Core.Path.{◌≡◌, refl, ap, ap₂, ◌∙◌}
 use mathlib.Core.List.{List, [], ◌∷◌, ◌++◌}
-use Prim.Native.Nat.{ℕ, ◌+◌, ◌/◌, ◌%◌, ◌<◌}
+use Prim.Native.Nat.{ℕ, ◌+◌}
 use native.Mathlib.Numerals.{add-one}
 use native.Mathlib.Omega.{arith}
 use lib.Dec.{eqb, ltb}
@@ -15,19 +15,13 @@ use Rattle.bodies.specs.Body.{body_in}
 use Rattle.bodies.specs.Layout.{layout_of}
 use Rattle.image.specs.Image.{version_of, layout, spi_of, position_of, body_place}
 use Rattle.salvage_entries.specs.Kept.{old_index}
-use Rattle.salvage_entries.specs.Tests.{how_many, first_with}
+use Rattle.salvage_entries.specs.Tests.{first_with}
+use Rattle.std.specs.List.{count_by}
 use Rattle.salvage_image.specs.KeptOf.{KeptOf}
 use Rattle.writing.specs.Text.{end_to_end}
 use Rattle.salvage_image.specs.Salvage.{new_count, new_place, new_entry, new_body, new_image}
 
 -- ---- octets
-
-pub two-octets : (n : ℕ) → n < 65536 → bytes 2 n ≡ n / 256 ∷ n % 256 ∷ []
-unfolding bytes
-two-octets n h =
-    let high : n / 256 % 256 ≡ n / 256 = omega arith in
-    let low : n / 1 % 256 ≡ n % 256 = omega arith in
-    ap₂ (λ (a b : ℕ). a ∷ b ∷ []) high low
 
 pub part_more : (at n : ℕ) (s : List ℕ) → part at (n + 1) s ≡ part at n s ++ (octet s (at + n) ∷ [])
 unfolding part tab
@@ -44,8 +38,8 @@ length-there x version at = length_part at (layout_of version).body x
 -- ---- what the code knows of the kept entries
 
 module _ (x kept : List ℕ) (k : KeptOf x kept) where
-  pub old_is : (j : ℕ) → first_with (λ i. eqb (how_many (λ h. ltb (spi_of x h) (spi_of x i)) kept) j) kept ≡ old_index x j
-  old_is j = ap (λ (l : List ℕ). first_with (λ i. eqb (how_many (λ h. ltb (spi_of x h) (spi_of x i)) l) j) l) k.is
+  pub old_is : (j : ℕ) → first_with (λ i. eqb (count_by (λ h. ltb (spi_of x h) (spi_of x i)) kept) j) kept ≡ old_index x j
+  old_is j = ap (λ (l : List ℕ). first_with (λ i. eqb (count_by (λ h. ltb (spi_of x h) (spi_of x i)) l) j) l) k.is
 
   pub count-is : length kept ≡ new_count x
   count-is = ap (λ (l : List ℕ). length l) k.is

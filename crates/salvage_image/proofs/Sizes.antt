@@ -85,8 +85,8 @@ pub image-refused : (x : List ℕ) → salvageable x ≡ false → salvaged_imag
 unfolding salvaged_image
 image-refused x e = rw e
 
-pub longest-image : (x : List ℕ) → length (salvaged_image x) ≤ most_octets
-longest-image x = by_test (salvageable x) refl
+pub longest_image : (x : List ℕ) → length (salvaged_image x) ≤ most_octets
+longest_image x = by_test (salvageable x) refl
   where
     by_test : (t : Bool) → salvageable x ≡ t → length (salvaged_image x) ≤ most_octets
     by_test true e = rw (image_taken x e) (image_short x (taken x e))

@@ -13,15 +13,15 @@ use bodies::layout_of;
 use image::{body_place, position_of, spi_of, version_of};
 use octets::octet_at;
 use salvage_entries::{keep_entries, old_index};
-use writing::put_octet;
+use writing::{put_octet, put_text};
 
 // A number as two octets.
+#[tactic(auto, unfolding(octets::specs::Numbers::bytes))]
 fn put_two(out: &mut [u8], at: usize, n: u16) -> usize
     requires { at + 2 ≤ length out.old }
     ensures { Put out.old at (bytes 2 n) out.new result }
 {
-    let behind = put_octet(out, at, (n / 256) as u8);
-    put_octet(out, behind, (n % 256) as u8)
+    put_text(out, at, &n.to_be_bytes())
 }
 
 // The contents entry with a new index: SPI and position.
@@ -36,43 +36,40 @@ fn put_entry(x: &[u8], kept: &[u8], index: u8, out: &mut [u8], at: usize) -> usi
 }
 
 // The body at a position.
+#[tactic(auto, using(writing::proofs::Puts::put_none, crate::proofs::Parts::part_none))]
 fn put_body(x: &[u8], position: u16, out: &mut [u8], at: usize) -> usize
     requires { at + length (body_in x.now (version_of x.now) position) ≤ length out.old }
     ensures { Put out.old at (body_in x.now (version_of x.now) position) out.new result }
 {
     let size = layout_of(version_of(x)).body as usize;
     let mut behind = at;
-    let mut i: usize = 0;
-    while i < size {
+    for i in 0..size {
         behind = put_octet(out, behind, octet_at(x, position as usize + i));
-        i += 1;
     }
     behind
 }
 
+#[tactic(auto, using(writing::proofs::Puts::put_none, writing::proofs::Ends::end_none))]
 fn put_contents(x: &[u8], kept: &[u8], out: &mut [u8], at: usize) -> usize
     requires { KeptOf x.now kept.now × (at + length (end_to_end (length kept.now) (new_entry x.now)) ≤ length out.old) }
     ensures { Put out.old at (end_to_end (length kept.now) (new_entry x.now)) out.new result }
 {
-    let count = kept.len() as u8;
     let mut behind = at;
-    let mut i: u8 = 0;
-    while i < count {
+    for i in 0..kept.len() as u8 {
         behind = put_entry(x, kept, i, out, behind);
-        i += 1;
     }
     behind
 }
 
+// Not one function with `put_contents`, over a closure: its clauses would have to say what each put promises, which is no plainer.
+#[tactic(auto, using(writing::proofs::Puts::put_none, writing::proofs::Ends::end_none))]
 fn put_bodies(x: &[u8], kept: &[u8], out: &mut [u8], at: usize) -> usize
     requires { KeptOf x.now kept.now × (at + length (end_to_end (length kept.now) (new_body x.now)) ≤ length out.old) }
     ensures { Put out.old at (end_to_end (length kept.now) (new_body x.now)) out.new result }
 {
     let mut behind = at;
-    let mut i: usize = 0;
-    while i < kept.len() {
+    for i in 0..kept.len() {
         behind = put_body(x, position_of(x, old_index(x, kept, i)), out, behind);
-        i += 1;
     }
     behind
 }
@@ -89,6 +86,7 @@ fn put_kept(x: &[u8], kept: &[u8], out: &mut [u8]) -> usize
 }
 
 // The image; of a refused input there is none.
+#[tactic(auto, using(writing::proofs::Puts::put_none, crate::proofs::Sizes::taken, crate::proofs::Sizes::kept_of, crate::proofs::Sizes::image_short), unfolding(crate::specs::Salvage::salvaged_image))]
 pub(crate) fn put_image(x: &[u8], out: &mut [u8]) -> usize
     requires { 1794 ≤ length out.old }
     ensures { Put out.old 0 (salvaged_image x.now) out.new result }

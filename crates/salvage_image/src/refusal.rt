@@ -8,12 +8,12 @@ const MOST_OCTETS: usize = 1794;
 
 const MOST_ENTRIES: u8 = 32;
 
+#[tactic(auto, unfolding(crate::specs::Salvage::salvageable))]
 pub fn salvageable(x: &[u8]) -> bool
     ensures { result ≡ salvageable x.now }
 {
     let version = version_of(x);
-    (2 <= x.len())
-        & (x.len() <= MOST_OCTETS)
+    (2..=MOST_OCTETS).contains(&x.len())
         & ((version == 1) | (version == 2))
         & (count_of(x) <= MOST_ENTRIES)
 }

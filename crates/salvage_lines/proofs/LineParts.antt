@@ -9,7 +9,7 @@ use lib.Dec.{eqb, ltb}
 use lib.ListN.{length, length-append}
 use Rattle.image.specs.Image.{count_of, spi_of}
 use Rattle.salvage_entries.specs.Kept.{is_kept, new_index}
-use Rattle.salvage_entries.specs.Tests.{some_of, how_many}
+use Rattle.std.specs.List.{list_any, count_by}
 use Rattle.salvage_image.specs.KeptOf.{KeptOf}
 use Rattle.salvage_image.specs.Salvage.{salvageable}
 use Rattle.writing.proofs.Ends.{end_short}
@@ -21,11 +21,11 @@ use Rattle.salvage_lines.specs.Lines.{line_about, stays, line_of, new_lines, sal
 -- ---- what the code knows of the kept entries
 
 module _ (x kept : List ℕ) (k : KeptOf x kept) where
-  pub new_is : (i : ℕ) → how_many (λ h. ltb (spi_of x h) (spi_of x i)) kept ≡ new_index x i
-  new_is i = ap (λ (l : List ℕ). how_many (λ h. ltb (spi_of x h) (spi_of x i)) l) k.is
+  pub new_is : (i : ℕ) → count_by (λ h. ltb (spi_of x h) (spi_of x i)) kept ≡ new_index x i
+  new_is i = ap (λ (l : List ℕ). count_by (λ h. ltb (spi_of x h) (spi_of x i)) l) k.is
 
-  pub among_is : (i : ℕ) → some_of (λ h. eqb h i) kept ≡ is_kept x i
-  among_is i = ap (λ (l : List ℕ). some_of (λ h. eqb h i) l) k.is
+  pub among_is : (i : ℕ) → list_any (λ h. eqb h i) kept ≡ is_kept x i
+  among_is i = ap (λ (l : List ℕ). list_any (λ h. eqb h i) l) k.is
 
 -- ---- a line
 
@@ -72,8 +72,8 @@ pub lines-refused : (x : List ℕ) → salvageable x ≡ false → salvage_lines
 unfolding salvage_lines
 lines-refused x e = rw e
 
-pub longest-lines : (x : List ℕ) → length (salvage_lines x) ≤ 352
-longest-lines x = by_test (salvageable x) refl
+pub longest_lines : (x : List ℕ) → length (salvage_lines x) ≤ 352
+longest_lines x = by_test (salvageable x) refl
   where
     by_test : (t : Bool) → salvageable x ≡ t → length (salvage_lines x) ≤ 352
     by_test true e = rw (lines_taken x e) (lines_short x (taken x e))

@@ -9,14 +9,15 @@ ghost use Rattle.writing.specs.Output.{written_to};
 ghost use Rattle.salvage_lines.specs.Lines.{salvage_lines};
 
 use lines_text::put_lines;
-use writing::{Written, copy_front};
+use writing::copy_front;
 
 // No lines are longer, as proofs/LineParts.antt shows: 32 of 11 octets.
 pub const LONGEST_LINES: usize = 352;
 
 // The lines to the front of `out`, whose rest stays; of a refused input the line that says so. Where `out` has no room for all of them, nothing
-// is written.
-pub fn write_lines(x: &[u8], out: &mut [u8]) -> Written
+// is written and the answer is None.
+#[tactic(auto, using(crate::proofs::LineParts::longest_lines))]
+pub fn write_lines(x: &[u8], out: &mut [u8]) -> Option<usize>
     ensures value { result ≡ written_to (salvage_lines x.now) out.old }
     ensures out_after { out.new ≡ fronted (salvage_lines x.now) out.old }
 {

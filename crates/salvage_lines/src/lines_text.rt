@@ -10,6 +10,7 @@ use salvage_entries::{is_among, keep_entries, new_index};
 use salvage_image::salvageable;
 use writing::{put_decimal, put_octet, put_text};
 
+#[tactic(auto, using(writing::proofs::Puts::put_then), unfolding(crate::specs::Lines::line_about))]
 fn put_about(out: &mut [u8], at: usize, what: &[u8], index: u8) -> usize
     requires { at + length (line_about what.now index) ≤ length out.old }
     ensures { Put out.old at (line_about what.now index) out.new result }
@@ -29,6 +30,7 @@ fn stays(x: &[u8], kept: &[u8], index: u8) -> bool
     (new == index as usize) & (place == position_of(x, index))
 }
 
+#[tactic(auto, using(writing::proofs::Puts::put_none, crate::proofs::LineParts::among_is), unfolding(crate::specs::Lines::line_of))]
 fn put_line(x: &[u8], kept: &[u8], index: u8, out: &mut [u8], at: usize) -> usize
     requires { KeptOf x.now kept.now × (at + length (line_of x.now index) ≤ length out.old) }
     ensures { Put out.old at (line_of x.now index) out.new result }
@@ -42,21 +44,20 @@ fn put_line(x: &[u8], kept: &[u8], index: u8, out: &mut [u8], at: usize) -> usiz
     put_about(out, at, b"dropped ", index)
 }
 
+#[tactic(auto, using(writing::proofs::Puts::put_none, writing::proofs::Ends::end_none))]
 fn put_each(x: &[u8], kept: &[u8], out: &mut [u8]) -> usize
     requires { KeptOf x.now kept.now × (length (new_lines x.now) ≤ length out.old) }
     ensures { Put out.old 0 (new_lines x.now) out.new result }
 {
-    let count = count_of(x);
-    let mut at: usize = 0;
-    let mut i: u8 = 0;
-    while i < count {
+    let mut at = 0;
+    for i in 0..count_of(x) {
         at = put_line(x, kept, i, out, at);
-        i += 1;
     }
     at
 }
 
 // The lines; of a refused input the one that says so.
+#[tactic(auto, using(salvage_image::proofs::Sizes::taken, salvage_image::proofs::Sizes::kept_of, crate::proofs::LineParts::lines_short), unfolding(crate::specs::Lines::salvage_lines))]
 pub(crate) fn put_lines(x: &[u8], out: &mut [u8]) -> usize
     requires { 352 ≤ length out.old }
     ensures { Put out.old 0 (salvage_lines x.now) out.new result }

@@ -20,7 +20,8 @@ use Rattle.bodies.specs.Layout.{layout_of}
 use Rattle.bodies.proofs.ValidBodies.{valid-body}
 use Rattle.image.specs.Image.{version_of, count_of, entry_place, spi_of, position_of, layout, body_at, body_of}
 use Rattle.writing.proofs.Ends.{end_same}
-use Rattle.salvage_entries.specs.Tests.{some_of, first_with}
+use Rattle.salvage_entries.specs.Tests.{first_with}
+use Rattle.std.specs.List.{list_any}
 use Rattle.salvage_entries.specs.Kept.{body_there, body_places, keepable, kept_among, is_kept, new_index, old_index}
 use Rattle.salvage_entries.proofs.KeptLaws.{in_order, kept-before, kept_then}
 use Rattle.salvage_entries.proofs.Members.{In, some_if, some_false, none-some, in_at, at_in, first_passes}
@@ -63,20 +64,20 @@ module _ (x : List ℕ) (octets : Octets x) (ok : Taken x) where
   may_keep i h k =
       let t = k.place.0 in
       let at : position_of x i ≡ place x t 0 = k.place.2 in
-      let spis : some_of (λ g. eqb (spi_of x g) (spi_of x i)) (kept_among x i) ≡ false =
+      let spis : list_any (λ g. eqb (spi_of x g) (spi_of x i)) (kept_among x i) ≡ false =
       none-some (λ g. eqb (spi_of x g) (spi_of x i)) (kept_among x i)
       (λ g m.
       let b = kept-before x i g (omega arith) m in
       ne_eqb (spi_of x g) (spi_of x i) (k.spi_new g (new_index x g) b.0 (kept_fate x g b.1)))
       in
-      let free : some_of (λ g. eqb (position_of x g) (position_of x i)) (kept_among x i) ≡ false =
+      let free : list_any (λ g. eqb (position_of x g) (position_of x i)) (kept_among x i) ≡ false =
       none-some (λ g. eqb (position_of x g) (position_of x i)) (kept_among x i)
       (λ g m.
       let b = kept-before x i g (omega arith) m in
       ne_eqb (position_of x g) (position_of x i) (k.place_free g (new_index x g) b.0 (kept_fate x g b.1)))
       in
       let which : octet (body_places x) t ≡ body_at x t = octet-tab (count_of x) (body_at x) t k.place.1 in
-      let among : some_of (λ p. eqb p (position_of x i)) (body_places x) ≡ true =
+      let among : list_any (λ p. eqb p (position_of x i)) (body_places x) ≡ true =
       some_if (λ p. eqb p (position_of x i)) (body_places x) (octet (body_places x) t)
       (at_in (body_places x) t (omega (arith, length-tab (count_of x) (body_at x), k.place.1)))
       (eq-eqb (octet (body_places x) t) (position_of x i) (which ∙ body-at t ∙ sym at))
@@ -103,7 +104,7 @@ module _ (x : List ℕ) (octets : Octets x) (ok : Taken x) where
       )
 
   -- the place of a body where the entry's position is
-  at_place : (i : ℕ) → some_of (λ p. eqb p (position_of x i)) (body_places x) ≡ true
+  at_place : (i : ℕ) → list_any (λ p. eqb p (position_of x i)) (body_places x) ≡ true
       → (t : ℕ) × (t < count_of x) × (position_of x i ≡ place x t 0)
   at_place i e =
       let f = first_passes (λ p. eqb p (position_of x i)) (body_places x) e in
@@ -123,8 +124,8 @@ module _ (x : List ℕ) (octets : Octets x) (ok : Taken x) where
       leb-true (position_of x i + (layout x).body) (length x) (search (and_left, and_right) depth 9)
       in
       let rules : body_ok (version_of x) (body_there x i) ≡ true = search (and_left, and_right) depth 9 in
-      let free : not (some_of (λ g. eqb (position_of x g) (position_of x i)) (kept_among x i)) ≡ true = search (and_left, and_right) depth 9 in
-      let alone : not (some_of (λ g. eqb (spi_of x g) (spi_of x i)) (kept_among x i)) ≡ true = search (and_left, and_right) depth 9 in
+      let free : not (list_any (λ g. eqb (position_of x g) (position_of x i)) (kept_among x i)) ≡ true = search (and_left, and_right) depth 9 in
+      let alone : not (list_any (λ g. eqb (spi_of x g) (spi_of x i)) (kept_among x i)) ≡ true = search (and_left, and_right) depth 9 in
       let others : (g j : ℕ) → g < i → fate_of x g ≡ kept_as j → In g (kept_among x i) = λ g j l f. kept_then x i g l (fate_kept x g j f).0 in
       record {
         whole = omega (arith, leb-true (entry_place (i + 1)) (length x) (search (and_left, and_right) depth 9));

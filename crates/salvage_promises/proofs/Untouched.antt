@@ -22,7 +22,7 @@ use Rattle.image.specs.Image.{entry_ok, valid_image}
 use Rattle.image.proofs.ValidImages.{Valid, valid, valid_ruled, spi_rises}
 use Rattle.writing.specs.Text.{end_to_end}
 use Rattle.writing.proofs.Ends.{end_same, end_empty, end_part}
-use Rattle.salvage_entries.specs.Tests.{some_of, how_many}
+use Rattle.std.specs.List.{list_any, count_by}
 use Rattle.salvage_entries.specs.Kept.{body_there, body_places, keepable, kept_among, kept_entries, is_kept, new_index, old_index}
 use Rattle.salvage_entries.proofs.Members.{In, some_if, none-some, in_at, at_in}
 use Rattle.salvage_entries.proofs.Ranks.{old_new}
@@ -47,19 +47,19 @@ below_in n h l =
     rw (octet-tab n (λ i. i) h l) at (at_in (below n) h (omega (arith, length-tab n (λ i. i))))
 
 -- of the numbers below n, those below i
-many-all : (test : ℕ → Bool) (i n : ℕ) → ((h : ℕ) → h < n → test h ≡ ltb h i) → n ≤ i → how_many test (below n) ≡ n
-unfolding tab how_many
+many-all : (test : ℕ → Bool) (i n : ℕ) → ((h : ℕ) → h < n → test h ≡ ltb h i) → n ≤ i → count_by test (below n) ≡ n
+unfolding tab
 many-all test i zero same h = refl
 many-all test i (suc n) same h =
     many_last test (below n) n
     ∙ rw (many-all test i n (λ g l. same g (omega arith)) (omega arith), same n (omega arith), lt-ltb n i (omega arith)) (omega arith)
 
-many_below : (test : ℕ → Bool) (i n : ℕ) → ((h : ℕ) → h < n → test h ≡ ltb h i) → i ≤ n → how_many test (below n) ≡ i
+many_below : (test : ℕ → Bool) (i n : ℕ) → ((h : ℕ) → h < n → test h ≡ ltb h i) → i ≤ n → count_by test (below n) ≡ i
 unfolding tab
 many_below test i zero same h = many-all test i zero same (omega arith) ∙ omega arith
 many_below test i (suc n) same h = by_place (dec_lt n i) (λ l. many_below test i n (λ g m. same g (omega arith)) l)
   where
-    by_place : Dec (n < i) → (i ≤ n → how_many test (below n) ≡ i) → how_many test (below (suc n)) ≡ i
+    by_place : Dec (n < i) → (i ≤ n → count_by test (below n) ≡ i) → count_by test (below (suc n)) ≡ i
     by_place (yes m) before = many-all test i (suc n) same (omega arith) ∙ omega arith
     by_place (no g) before =
         many_last test (below n) n ∙ rw (before (omega arith), same n (omega arith), le-ltb n i (omega arith)) (add-zero i)
@@ -93,18 +93,18 @@ module _ (x : List ℕ) (ok : Taken x) (passed : valid_image x ≡ true) where
   keeps_it : (n : ℕ) → n < count_of x → keepable x (below n) n ≡ true
   unfolding keepable
   keeps_it n h =
-      let spis : some_of (λ g. eqb (spi_of x g) (spi_of x n)) (below n) ≡ false =
+      let spis : list_any (λ g. eqb (spi_of x g) (spi_of x n)) (below n) ≡ false =
       none-some (λ g. eqb (spi_of x g) (spi_of x n)) (below n)
       (λ g i. let l : g < n = in_below n g i in ne_eqb (spi_of x g) (spi_of x n) (λ e. absurd (omega (arith, spi_rises x v g n l h))))
       in
-      let free : some_of (λ g. eqb (position_of x g) (position_of x n)) (below n) ≡ false =
+      let free : list_any (λ g. eqb (position_of x g) (position_of x n)) (below n) ≡ false =
       none-some (λ g. eqb (position_of x g) (position_of x n)) (below n)
       (λ g i.
       let l : g < n = in_below n g i in
       ne_eqb (position_of x g) (position_of x n) (λ e. absurd (omega (arith, place g (omega arith), place n h))))
       in
       let there : octet (body_places x) n ≡ body_at x n = octet-tab (count_of x) (body_at x) n h in
-      let among : some_of (λ p. eqb p (position_of x n)) (body_places x) ≡ true =
+      let among : list_any (λ p. eqb p (position_of x n)) (body_places x) ≡ true =
       some_if (λ p. eqb p (position_of x n)) (body_places x) (octet (body_places x) n)
       (at_in (body_places x) n (omega (arith, length-tab (count_of x) (body_at x))))
       (eq-eqb (octet (body_places x) n) (position_of x n) (there ∙ sym (v.entry n h).position))
@@ -135,7 +135,7 @@ module _ (x : List ℕ) (ok : Taken x) (passed : valid_image x ≡ true) where
   same_count = ap (λ (l : List ℕ). length l) kept-all ∙ length-tab (count_of x) (λ i. i)
 
   is-kept : (i : ℕ) → i < count_of x → is_kept x i ≡ true
-  is-kept i h = ap (λ (l : List ℕ). some_of (λ g. eqb g i) l) kept-all ∙ below_in (count_of x) i h
+  is-kept i h = ap (λ (l : List ℕ). list_any (λ g. eqb g i) l) kept-all ∙ below_in (count_of x) i h
 
   smaller : (i h : ℕ) → i < count_of x → h < count_of x → ltb (spi_of x h) (spi_of x i) ≡ ltb h i
   smaller i h below-i below-h = by_place (dec_lt h i) (dec_lt i h)
@@ -149,7 +149,7 @@ module _ (x : List ℕ) (ok : Taken x) (passed : valid_image x ≡ true) where
 
   new_index_lem : (i : ℕ) → i < count_of x → new_index x i ≡ i
   new_index_lem i h =
-      ap (λ (l : List ℕ). how_many (λ g. ltb (spi_of x g) (spi_of x i)) l) kept-all
+      ap (λ (l : List ℕ). count_by (λ g. ltb (spi_of x g) (spi_of x i)) l) kept-all
       ∙ many_below (λ g. ltb (spi_of x g) (spi_of x i)) i (count_of x) (λ g l. smaller i g h l) (omega arith)
 
   same_index : (j : ℕ) → j < count_of x → old_index x j ≡ j

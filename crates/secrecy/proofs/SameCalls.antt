@@ -13,6 +13,7 @@ use borrow.Author.Tests.{le-ltb, not-false}
 use lib.Dec.{eqb, ltb}
 use lib.ListN.{length, set, length-set, get_or-eq_default}
 use lib.Seq.{get_or-set_same, get_or-set_other}
+use Rattle.std.specs.Prelude.{Option, Some, None}
 use Rattle.octets.specs.Lists.{octet, Octets, all}
 use Rattle.octets.proofs.Alls.{all_same}
 use Rattle.octets.proofs.Rules.{tab_ext}
@@ -30,8 +31,6 @@ use Rattle.numbers.proofs.AfterStores.{mark_only, after-all, after-octets}
 use Rattle.numbers.proofs.Agreement.{accepted}
 use Rattle.association.specs.Association.{naming_of, association_of, held, is_none, the_one, match_at, matching, index_of}
 use Rattle.association.specs.Search.{body_serves, sees, has_spi, matches, first_from, entry_for}
-use Rattle.association.specs.declared.search.Found.{Found}
-use Rattle.association.specs.declared.search.Found.TheVariants as found
 use Rattle.association.specs.declared.search.Wanted.{Wanted}
 use Rattle.association.proofs.Finding.{found_at}
 use Rattle.frame.specs.Closing.{field_ok}
@@ -130,10 +129,10 @@ module _ {image other : List ℕ} (b : OnlyKeys image other) (last : List ℕ) (
   unfolding seen matching association_of held
   same_seen = rw (same-entry b w) (by-entry (entry_for image w) refl)
     where
-      by-entry : (x : Found) → entry_for image w ≡ x
+      by-entry : (x : Option ℕ) → entry_for image w ≡ x
           → SeenAlike (record { valid = valid_image image; agree = agrees image last; found = match_at image last x })
           (record { valid = valid_image other; agree = agrees other last; found = match_at other last x })
-      by-entry (found.At i) e =
+      by-entry (Some i) e =
           let h : i < count_of image = omega (arith, (found_at image w i e).to) in
           record {
             valid = same-valid b;
@@ -144,7 +143,7 @@ module _ {image other : List ℕ} (b : OnlyKeys image other) (last : List ℕ) (
             naming = same-naming i h;
             number = refl;
           }
-      by-entry found.Nothing e =
+      by-entry None e =
           record {
             valid = same-valid b;
             agree = same-agrees b last;

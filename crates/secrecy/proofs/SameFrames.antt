@@ -9,13 +9,13 @@ use native.Mathlib.Omega.{arith}
 use lib.Dec.{eqb, ltb}
 use lib.ListN.{length}
 use lib.Seq.{length-slice}
+use Rattle.std.specs.Prelude.{Option, Some, None}
 use Rattle.octets.specs.Lists.{octet}
 use Rattle.headers.specs.Fields.{segment_map, tm_secondary, secondary_length}
 use Rattle.headers.specs.Telemetry.{tm_primary, tm_header}
 use Rattle.kinds.specs.Kinds.{Kind, telecommand, tm, aos, no_kind, kind_behind, kind_of, named, check_field_length}
 use Rattle.kinds.specs.declared.kinds.Kind.TheVariants as kind
-use Rattle.kinds.specs.declared.kinds.Named.{Named}
-use Rattle.kinds.specs.declared.kinds.Named.TheVariants as answer
+use Rattle.kinds.specs.declared.kinds.Kind as code
 use Rattle.frame.specs.Parts.{security_end, mac_start, too_short, secured_content}
 use Rattle.frame.specs.Rules.{obeys}
 use Rattle.association.specs.declared.held.Held.{Held}
@@ -112,13 +112,13 @@ module _ (frame other : List ℕ) (long : length other ≡ length frame) where
         map = refl;
       }
 
-  reads : (a : Named) → ((j : ℕ) → j < (kind_behind a).header frame → octet other j ≡ octet frame j) → SameHeaders (kind_behind a) frame other
-  reads (answer.Kind kind.Tc) same = telecommand_reads 5 0 (λ s. 0) (omega arith) refl same
-  reads (answer.Kind kind.SegmentedTc) same =
+  reads : (a : Option code.Kind) → ((j : ℕ) → j < (kind_behind a).header frame → octet other j ≡ octet frame j) → SameHeaders (kind_behind a) frame other
+  reads (Some kind.Tc) same = telecommand_reads 5 0 (λ s. 0) (omega arith) refl same
+  reads (Some kind.SegmentedTc) same =
       telecommand_reads 6 63 segment_map (omega arith) (ap (λ (x : ℕ). x % 64) (same 5 (omega arith))) same
-  reads (answer.Kind kind.Tm) same = tm_reads same
-  reads (answer.Kind kind.Aos) same = aos_reads same
-  reads answer.Nothing same = none_reads
+  reads (Some kind.Tm) same = tm_reads same
+  reads (Some kind.Aos) same = aos_reads same
+  reads None same = none_reads
 
   -- with a check field or without
   pub same_headers : (said : Said) → ((j : ℕ) → j < (kind_said said).header frame → octet other j ≡ octet frame j)

@@ -8,7 +8,7 @@ ghost use Rattle.engines.specs.Lent.{Lent};
 ghost use Rattle.link.specs.Calls.{leaving, secured};
 
 use admission::admit_sending;
-use judging::{Admission, Said};
+use judging::Said;
 use link::{Outcome, refused};
 use numbers::Numbers;
 use securing::secure_under;
@@ -28,10 +28,11 @@ pub fn secure_by(
     requires { Lent tables.now }
     ensures { leaving result image.new output.new ≡ secured image.old numbers.last said spi frame.now output.old }
 {
-    let admission = admit_sending(image, numbers, said, spi, frame);
-    match admission {
-        Admission::Refused(answer) => refused(answer, numbers),
-        Admission::To(framing, entry) => {
+    match admit_sending(image, numbers, said, spi, frame) {
+        Err(refusal) => refused(Err(refusal), numbers),
+        Ok(admission) => {
+            let framing = admission.framing;
+            let entry = admission.entry;
             secure_under(tables, image, numbers, framing, entry, spi, frame, output)
         }
     }

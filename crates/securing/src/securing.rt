@@ -12,7 +12,7 @@ ghost use Rattle.link.specs.Calls.{leaving, left};
 ghost use Rattle.link.specs.Steps.{sending_reply};
 
 use association::{Held, held_at};
-use judging::{Grant, Verdict};
+use judging::Grant;
 use kinds::Framing;
 use link::{Outcome, carried_out, refused};
 use marks::make_all;
@@ -59,10 +59,9 @@ pub(crate) fn secure_under(
 {
     let held = held_at(image, entry);
     let last = numbers.of(entry);
-    let verdict = judge_sending(image, entry, held, last, framing, frame, output.len());
-    match verdict {
-        Verdict::Refused(answer) => refused(answer, numbers),
-        Verdict::Granted(grant) => {
+    match judge_sending(image, entry, held, last, framing, frame, output.len()) {
+        Err(refusal) => refused(Err(refusal), numbers),
+        Ok(grant) => {
             let plan = grant.plan;
             let made = make_all(image, plan);
             hand_out(

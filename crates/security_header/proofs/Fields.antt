@@ -3,11 +3,12 @@
 use Prim.Native.Nat.{ℕ, ◌+◌, ◌-◌, ◌*◌, ◌/◌, ◌%◌, ◌^◌, ◌<◌}
 use mathlib.Core.Path.{◌≡◌, refl, sym, ap, ap₂, ◌∙◌}
 use mathlib.Core.Logic.{◌≢◌}
-use mathlib.Core.List.{List, ◌++◌}
+use mathlib.Core.List.{List, [], ◌∷◌, ◌++◌}
 use native.Mathlib.Nat.{div-one, zero-add}
 use native.Mathlib.Omega.{arith}
 use borrow.Author.Tests.{eq-eqb, ne_eqb}
-use lib.ListN.{set, drop, replicate}
+use lib.ListN.{drop, replicate}
+use borrow.Rule.Slice.PartMut.{put_mid}
 use lib.Seq.{drop-drop}
 use Rattle.octets.specs.Numbers.{number, number_at, bytes}
 use Rattle.octets.proofs.Numbers.{bytes-append, number-bytes}
@@ -23,8 +24,8 @@ three_words at s = number_at-add at 8 4 s ∙ ap (λ (x : ℕ). x * 4294967296 +
 -- two octets of an SPI at the front of fourteen, two that name the association in octets 4 and 5, and four of a number from a place on
 abbrev pub made : ℕ → ℕ → ℕ → ℕ → List ℕ
 made spi naming at n =
-    set (set (set (set (set (set (set (set (replicate 14 0) 0 (spi / 256 % 256)) 1 (spi % 256)) 4 (naming / 256 % 256)) 5 (naming % 256))
-    at (n / 16777216 % 256)) (at + 1) (n / 65536 % 256)) (at + 2) (n / 256 % 256)) (at + 3) (n % 256)
+    put_mid at (at + 4 - at) (put_mid 4 2 ((spi / 256 % 256 ∷ spi % 256 ∷ []) ++ replicate 12 0) (naming / 256 % 256 ∷ naming % 256 ∷ []))
+    (n / 16777216 % 256 ∷ n / 65536 % 256 ∷ n / 256 % 256 ∷ n % 256 ∷ [])
 
 short_header : (spi naming n : ℕ) → made spi naming 2 n ≡ (bytes 2 spi ++ field_under authentication naming n) ++ replicate 8 0
 unfolding bytes

@@ -26,15 +26,10 @@ pub fn security_header(number: u8, naming: u16, spi: u16, n: u32) -> [u8; 14]
     ensures { result ≡ (bytes 2 spi ++ field_under (service number) naming n) ++ replicate (12 - (service number).field) 0 }
 {
     let mut header: [u8; 14] = [0; 14];
-    header[0] = (spi / 256 % 256) as u8;
-    header[1] = (spi % 256) as u8;
     let at = security_length(number) as usize - 4;
-    header[4] = (naming / 256 % 256) as u8;
-    header[5] = (naming % 256) as u8;
-    header[at] = (n / 16777216 % 256) as u8;
-    header[at + 1] = (n / 65536 % 256) as u8;
-    header[at + 2] = (n / 256 % 256) as u8;
-    header[at + 3] = (n % 256) as u8;
+    header[..2].copy_from_slice(&spi.to_be_bytes());
+    header[4..6].copy_from_slice(&naming.to_be_bytes());
+    header[at..at + 4].copy_from_slice(&n.to_be_bytes());
     header
 }
 

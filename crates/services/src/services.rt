@@ -1,5 +1,6 @@
 // Document 01, 'Frames': the two services. `security` is the whole security header, and `before` what the MAC covers before the data. What comes
-// in is read under the expanded key, since one call compares its MAC and releases its data. The tables say which engine makes the blocks.
+// in is read under the expanded key, since one call compares its MAC and releases its data. The tables say which engine makes the blocks. GCM
+// refuses no text of a frame's length that has room, so what it seals and decrypts is unwrapped.
 ghost use Rattle.std.specs.Prelude.{◌≡◌, ◌≤◌, length};
 ghost use Rattle.octets.specs.Lists.{part};
 ghost use Rattle.octets.specs.Same.{same};
@@ -39,8 +40,7 @@ pub fn protect(
     let key = held.key;
     let expanded = expand_key(key);
     if held.service == 2 {
-        let sealed = gcm::seal_under(tables, &expanded, iv_in(security), before, clear, text);
-        return sealed.tag;
+        return gcm::seal_under(tables, &expanded, iv_in(security), before, clear, text).unwrap();
     }
     put(clear, text);
     cmac::mac_under(tables, &expanded, before, clear)
@@ -61,12 +61,7 @@ pub fn mac_is_right(
     ensures { result ≡ same (mac_under held security.now before.now text.now) mac }
 {
     if held.service == 2 {
-        let verdict = gcm::check_under(tables, expanded, iv_in(security), before, text, mac);
-        return match verdict {
-            gcm::Checked::Right => true,
-            gcm::Checked::Wrong => false,
-            gcm::Checked::TooLong => false,
-        };
+        return gcm::check_under(tables, expanded, iv_in(security), before, text, mac).is_ok();
     }
     cmac::check_under(tables, expanded, before, text, mac)
 }
@@ -85,7 +80,7 @@ pub fn release(
     ensures { out.new ≡ written (clear_under held security.now text.now) out.old }
 {
     if held.service == 2 {
-        gcm::decrypt_under(tables, expanded, iv_in(security), text, out);
+        gcm::decrypt_under(tables, expanded, iv_in(security), text, out).unwrap();
         return;
     }
     put(text, out);

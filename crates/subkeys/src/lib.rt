@@ -9,10 +9,8 @@ fn shifted(x: [u8; 16]) -> [u8; 16]
     ensures { result ≡ shifted x }
 {
     let mut out = [0u8; 16];
-    let mut i: usize = 0;
-    while i < 15 {
+    for i in 0..15 {
         out[i] = x[i] % 128 * 2 + x[i + 1] / 128;
-        i += 1;
     }
     out[15] = x[15] % 128 * 2;
     out

@@ -8,16 +8,6 @@ ghost use Rattle.headers.specs.Telecommand.{tc_rules, tc_length_ok, tc_holds_len
 use headers::wide;
 use octets::octet_at;
 
-// What the length field of a frame of n octets holds: all octets less one.
-fn length_field(n: usize) -> usize
-    ensures { result ≡ n - 1 }
-{
-    if n == 0 {
-        return 0;
-    }
-    n - 1
-}
-
 #[derive(Clone, Copy)]
 pub struct Tc;
 
@@ -43,7 +33,7 @@ impl Tc {
         ensures { (result ≡ tc_holds_length frame.old) × (frame.new ≡ tc_with_length n frame.old) }
     {
         if 3 < frame.len() {
-            let count = length_field(n);
+            let count = n.saturating_sub(1);
             frame[2] = frame[2] / 4 * 4 + (count / 256 % 4) as u8;
             frame[3] = (count % 256) as u8;
             return true;

@@ -13,7 +13,7 @@ unfoldable pub octets_in : ℕ → ℕ → List ℕ → List ℕ
 octets_in room n line = text_in room n line ++ replicate (room - length (text_in room n line)) 0
 
 -- field n spells octets, at most 96, and nothing else: it has two characters for each of them
-unfoldable pub whole_field : ℕ → List ℕ → Bool
+abbrev pub whole_field : ℕ → List ℕ → Bool
 whole_field n line = eqb (length (field_of n line)) (2 * length (text_in 96 n line))
 
 -- it spells that many octets and nothing else

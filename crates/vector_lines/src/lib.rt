@@ -1,11 +1,10 @@
-// What the programs that run published vectors share: the fields of a line, each in hexadecimal, how the vectors of a file went, and what
-// is said of a file that cannot be opened.
+// What the programs that run published vectors share: the fields of a line, each in hexadecimal, and how the vectors of a file went.
 #![tactic(auto)]
 
 mod fields;
+mod files;
 mod tally;
-mod unopened;
 
-pub use fields::{block, is_empty, is_field, is_whole, key, spells};
+pub use fields::{is_empty, is_field, is_whole, key, octets, read_field, spells};
+pub use files::run_file;
 pub use tally::Tally;
-pub use unopened::tell_unopened;

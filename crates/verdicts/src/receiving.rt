@@ -8,7 +8,7 @@ ghost use Rattle.judging.specs.Verdicts.{Judged, receiving_judged};
 
 use crate::window::accepts;
 use frame::too_short;
-use judging::{Answer, Grant, Verdict};
+use judging::{Grant, Refusal};
 use numbers::plan_for;
 use opening::{Opening, clear_length, mac_right, number_of};
 use security_header::security_length;
@@ -22,7 +22,7 @@ pub fn judge_receiving(
     opening: Opening,
     frame: &[u8],
     room: usize,
-) -> Verdict
+) -> Result<Grant, Refusal>
     requires lent { Lent tables.now }
     requires true_value { (obeys (framed opening.framing) frame.now true ≡ true) × (opening ≡ opening_of opening.framing opening.held frame.now) }
     ensures { Judged result (receiving_judged image.now entry opening.held last (framed opening.framing) frame.now room) }
@@ -30,21 +30,21 @@ pub fn judge_receiving(
     let framing = opening.framing;
     let held = opening.held;
     if too_short(framing, security_length(held.service), frame) {
-        return Verdict::Refused(Answer::TooShort);
+        return Err(Refusal::TooShort);
     }
     let size = clear_length(opening, frame);
     if room < size {
-        return Verdict::Refused(Answer::NoRoom);
+        return Err(Refusal::NoRoom);
     }
     if !mac_right(tables, opening, frame) {
-        return Verdict::Refused(Answer::WrongMac);
+        return Err(Refusal::WrongMac);
     }
     let sequence = number_of(opening, frame);
     if !accepts(last, held.window, sequence) {
-        return Verdict::Refused(Answer::OutsideWindow);
+        return Err(Refusal::OutsideWindow);
     }
     let number = sequence.number;
-    Verdict::Granted(Grant {
+    Ok(Grant {
         entry,
         number,
         plan: plan_for(image, entry, number),

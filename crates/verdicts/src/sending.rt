@@ -4,7 +4,7 @@ ghost use Rattle.judging.specs.Verdicts.{Judged, sending_judged};
 
 use association::Held;
 use frame::{exceeds, secured_length};
-use judging::{Answer, Grant, Verdict};
+use judging::{Grant, Refusal};
 use kinds::Framing;
 use numbers::plan_for;
 use security_header::security_length;
@@ -20,22 +20,22 @@ pub fn judge_sending(
     framing: Framing,
     frame: &[u8],
     room: usize,
-) -> Verdict
+) -> Result<Grant, Refusal>
     ensures { Judged result (sending_judged image.now entry held last (framed framing) frame.now room) }
 {
     let security = security_length(held.service);
     let size = secured_length(security, frame);
     if exceeds(framing, security, frame) {
-        return Verdict::Refused(Answer::TooLong);
+        return Err(Refusal::TooLong);
     }
     if room < size {
-        return Verdict::Refused(Answer::NoRoom);
+        return Err(Refusal::NoRoom);
     }
     if last == GREATEST {
-        return Verdict::Refused(Answer::NumbersSpent);
+        return Err(Refusal::NumbersSpent);
     }
     let number = last + 1;
-    Verdict::Granted(Grant {
+    Ok(Grant {
         entry,
         number,
         plan: plan_for(image, entry, number),

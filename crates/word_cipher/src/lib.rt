@@ -29,15 +29,10 @@ fn encrypt_apart(
     ensures { state_from result ≡ cipher expanded.now (state_from block) }
 {
     let mut s = add_key(expanded, 0, block);
-    let mut n: usize = 0;
-    while n < 13 {
-        let next = add_key(
-            expanded,
-            n + 1,
-            mixed(first, second, third, fourth, last, s),
-        );
+    for n in 1..14 {
+        // The check does not cover a call whose result goes straight into an array that is there already.
+        let next = add_key(expanded, n, mixed(first, second, third, fourth, last, s));
         s = next;
-        n += 1;
     }
     add_key(expanded, 14, rows_shifted(first, second, third, s))
 }

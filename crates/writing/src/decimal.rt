@@ -13,6 +13,7 @@ fn last_digit(n: u32) -> u8
 }
 
 // A number of at most so many digits: those of n / 10, and then the digit n % 10.
+#[tactic(auto, using(crate::proofs::Puts::put_none, crate::proofs::Puts::put_then), unfolding(crate::specs::Text::digits))]
 fn put_digits(out: &mut [u8], at: usize, most: usize, n: u32) -> usize
     requires { at + length (digits most n) ≤ length out.old }
     ensures { Put out.old at (digits most n) out.new result }

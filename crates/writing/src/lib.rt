@@ -6,4 +6,4 @@ mod decimal;
 mod output;
 
 pub use decimal::put_decimal;
-pub use output::{Written, copy_front, put_octet, put_text, text_in};
+pub use output::{copy_front, put_octet, put_text, text_in};

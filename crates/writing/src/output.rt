@@ -1,16 +1,9 @@
 // Writing to an output: an octet or a text at a place, and a whole text to the front.
-ghost use Rattle.std.specs.Prelude.{◌≡◌, [], ◌∷◌, ◌+◌, ◌<◌, ◌≤◌, length, take};
+ghost use Rattle.std.specs.Prelude.{◌≡◌, [], ◌∷◌, ◌+◌, ◌<◌, ◌≤◌, length, take, unwrap_or};
 ghost use Rattle.octets.specs.Output.{fronted};
-ghost use Rattle.writing.specs.Output.{Put, written_to, length_of};
+ghost use Rattle.writing.specs.Output.{Put, written_to};
 
 use octets::put;
-
-// What came of writing a text: so many octets of it stand at the front of the output, or it has no room for them and is as it was.
-#[derive(Clone, Copy)]
-pub enum Written {
-    Text(usize),
-    NoRoom,
-}
 
 pub fn put_octet(out: &mut [u8], at: usize, octet: u8) -> usize
     requires { at < length out.old }
@@ -20,43 +13,34 @@ pub fn put_octet(out: &mut [u8], at: usize, octet: u8) -> usize
     at + 1
 }
 
+#[tactic(auto, using(crate::proofs::Puts::put_whole))]
 pub fn put_text(out: &mut [u8], at: usize, text: &[u8]) -> usize
     requires { at + length text.now ≤ length out.old }
     ensures { Put out.old at text.now out.new result }
 {
-    let mut behind = at;
-    let mut i: usize = 0;
-    while i < text.len() {
-        behind = put_octet(out, behind, text[i]);
-        i += 1;
-    }
+    let behind = at + text.len();
+    out[at..behind].copy_from_slice(text);
     behind
 }
 
-// The text to the front of `out`, whose rest stays, where there is room for all of it.
-pub fn copy_front(text: &[u8], out: &mut [u8]) -> Written
+// The text to the front of `out`, whose rest stays. The answer is its length, or None where `out` has no room for all of it: then `out` is as
+// it was.
+#[tactic(auto, unfolding(crate::specs::Output::written_to, octets::specs::Output::fronted))]
+pub fn copy_front(text: &[u8], out: &mut [u8]) -> Option<usize>
     ensures value { result ≡ written_to text.now out.old }
     ensures out_after { out.new ≡ fronted text.now out.old }
 {
     if out.len() < text.len() {
-        return Written::NoRoom;
+        return None;
     }
     put(text, out);
-    Written::Text(text.len())
-}
-
-fn front(s: &[u8], n: usize) -> &[u8]
-    ensures { result.now ≡ take n s.now }
-{
-    if n <= s.len() { &s[..n] } else { s }
+    Some(text.len())
 }
 
 // The text in an output that it was written to; none of one that had no room.
-pub fn text_in(written: Written, out: &[u8]) -> &[u8]
-    ensures { result.now ≡ take (length_of written) out.now }
+pub fn text_in(written: Option<usize>, out: &[u8]) -> &[u8]
+    ensures { result.now ≡ take (unwrap_or written 0) out.now }
 {
-    match written {
-        Written::Text(length) => front(out, length),
-        Written::NoRoom => front(out, 0),
-    }
+    let length = written.unwrap_or(0);
+    &out[..length.min(out.len())]
 }

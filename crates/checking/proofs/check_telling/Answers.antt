@@ -12,10 +12,10 @@ use Rattle.judging.proofs.Admitting.{admitted_obeys}
 use Rattle.link.proofs.Under.{checking-refused, checking_under, told_none, told_under}
 use Rattle.checking.proofs.check_telling.Goals as goal
 
-pub returns-in-Refused : goal.returns-in-Refused
+pub returns-in-Err : goal.returns-in-Err
 unfolding checked checked_as
-returns-in-Refused c = let g = c.args in
-    let r = c.in-Refused.ensures in
+returns-in-Err c = let g = c.args in
+    let r = c.in-Err.ensures in
     let right = comparison g.image.now g.numbers.last g.said g.frame.now in
     let reply = checking_reply right g.image.now g.numbers.last g.said g.frame.now (length g.output.now) in record {
       output_after = carried_refusal reply g.image.now g.output.now _ g.numbers _
@@ -28,13 +28,13 @@ pub check_under-outcome-requires : goal.check_under-outcome-requires
 check_under-outcome-requires c = let g = c.args in record {
   lent = c.requires;
   true_value = admitted_obeys g.image.now g.numbers.last (checking_wants g.said g.frame.now) g.said g.frame.now true _ _
-      c.in-To.ensures;
+      c.in-Ok.ensures;
 }
 
-pub returns-in-To : goal.returns-in-To
+pub returns-in-Ok : goal.returns-in-Ok
 unfolding checked checked_as
-returns-in-To c = let g = c.args in
-    let r = c.in-To.ensures in record {
+returns-in-Ok c = let g = c.args in
+    let r = c.in-Ok.ensures in record {
       output_after = c.check_under-outcome.ensures
           ∙ ap (λ (q : Reply). left q g.image.now g.numbers.last g.output.now)
           (checking_under g.image.now g.numbers.last g.said g.frame.now (length g.output.now) _ _ r);

@@ -5,4 +5,4 @@ use borrow.Author.Rules.{rules}
 use Rattle.columns.proofs.joined.Goals as goal
 
 pub returns : goal.returns
-returns c = joins c.args.a c.args.b c.args.c c.args.d (search rules) (search rules) (search rules) (search rules)
+returns c = rw c.from_be_bytes.ensures (joins c.args.a c.args.b c.args.c c.args.d (search rules) (search rules) (search rules) (search rules))

@@ -7,4 +7,4 @@ use Rattle.columns.proofs.octets_of.Goals as goal
 
 pub returns : goal.returns
 unfolding state_from tab
-returns c = simp div-one
+returns c = simp (c.to_be_bytes-a.ensures, c.to_be_bytes-b.ensures, c.to_be_bytes-c.ensures, c.to_be_bytes-d.ensures, div-one)

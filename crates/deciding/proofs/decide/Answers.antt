@@ -11,7 +11,7 @@ use lib.ListN.{length, drop}
 use Rattle.bodies.specs.Body.{state_of}
 use Rattle.image.specs.Image.{version_of, body_of}
 use Rattle.judging.specs.Answers.{Test, first}
-use Rattle.judging.specs.declared.answers.Answer.TheVariants as answer
+use Rattle.judging.specs.declared.answers.Refusal.TheVariants as refused
 use Rattle.judging.proofs.Admitting.{refuses}
 use Rattle.judging.proofs.First.{none_left, applies, passes}
 use Rattle.procedures.specs.Procedures.{Procedure, procedure_is}
@@ -52,13 +52,13 @@ pub returns-then-not-asks : goal.returns-then-not-asks
 returns-then-not-asks c = let g = c.args in
     let p = procedure_is g.procedure in
     let asked : p.asks (state_of (body_of g.image.now g.entry)) ≡ c.asks.result = sym (c.asks.ensures ∙ ap p.asks c.state_at.ensures) in
-    refuses answer.WrongState _ 15 refl (omega arith) (applies 15 _ _ (ap not (asked ∙ c.if-not-asks.true)))
+    refuses refused.WrongState _ (omega arith) (applies 15 _ _ (ap not (asked ∙ c.if-not-asks.true)))
 
 pub returns-then-not-allowed : goal.returns-then-not-allowed
 returns-then-not-allowed c = let g = c.args in
     let p = procedure_is g.procedure in
     let asked : p.asks (state_of (body_of g.image.now g.entry)) ≡ c.asks.result = sym (c.asks.ensures ∙ ap p.asks c.state_at.ensures) in
-    refuses answer.BadValue _ 16 refl (omega arith)
+    refuses refused.BadValue _ (omega arith)
     (past-15 p g.image.now g.entry g.last g.value.now g.room (asked ∙ c.if-not-asks.false)
     ∙ applies 16 _ _ (ap not (sym c.allowed.ensures ∙ c.if-not-allowed.true)))
 
@@ -66,7 +66,7 @@ pub returns-then-not-key_known : goal.returns-then-not-key_known
 returns-then-not-key_known c = let g = c.args in
     let p = procedure_is g.procedure in
     let asked : p.asks (state_of (body_of g.image.now g.entry)) ≡ c.asks.result = sym (c.asks.ensures ∙ ap p.asks c.state_at.ensures) in
-    refuses answer.UnknownKey _ 17 refl (omega arith)
+    refuses refused.UnknownKey _ (omega arith)
     (past-16 p g.image.now g.entry g.last g.value.now g.room (asked ∙ c.if-not-asks.false)
     (sym c.allowed.ensures ∙ c.if-not-allowed.false)
     ∙ applies 17 _ _ (ap not (sym c.key_known.ensures ∙ c.if-not-key_known.true)))
@@ -75,7 +75,7 @@ pub returns-then-not-key_ready : goal.returns-then-not-key_ready
 returns-then-not-key_ready c = let g = c.args in
     let p = procedure_is g.procedure in
     let asked : p.asks (state_of (body_of g.image.now g.entry)) ≡ c.asks.result = sym (c.asks.ensures ∙ ap p.asks c.state_at.ensures) in
-    refuses answer.WrongKeyState _ 18 refl (omega arith)
+    refuses refused.WrongKeyState _ (omega arith)
     (past-17 p g.image.now g.entry g.last g.value.now g.room (asked ∙ c.if-not-asks.false)
     (sym c.allowed.ensures ∙ c.if-not-allowed.false)
     (sym c.key_known.ensures ∙ c.if-not-key_known.false)
@@ -86,7 +86,7 @@ returns-then-room-size c = let g = c.args in
     let p = procedure_is g.procedure in
     let asked : p.asks (state_of (body_of g.image.now g.entry)) ≡ c.asks.result = sym (c.asks.ensures ∙ ap p.asks c.state_at.ensures) in
     let sized : c.reply_size-size.result ≡ length (p.reply g.image.now g.entry g.last g.value.now) = c.reply_size-size.ensures g.entry g.last in
-    refuses answer.NoRoom _ 6 refl (omega arith)
+    refuses refused.NoRoom _ (omega arith)
     (past-18 p g.image.now g.entry g.last g.value.now g.room (asked ∙ c.if-not-asks.false)
     (sym c.allowed.ensures ∙ c.if-not-allowed.false)
     (sym c.key_known.ensures ∙ c.if-not-key_known.false)

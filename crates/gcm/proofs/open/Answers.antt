@@ -1,42 +1,18 @@
--- `open` is right because each way out is the case of `opened` that its tests name.
+-- `open` is refused just where the check is; behind it stands the decryption.
 -- Assumes nothing.
-use mathlib.Core.Path.{sym, ◌∙◌}
-use Rattle.gcm.proofs.Laws.{opened_too_long, opened_wrong, opened_no_room}
-use Rattle.gcm.proofs.Made.{open_made, tag-keyed}
+use Rattle.std.proofs.Common.{sym, ◌∙◌, rules}
+use Rattle.gcm.proofs.Laws.{opened_refused, opened-checked}
 use Rattle.gcm.proofs.open.Goals as goal
 
-pub returns-then-too_long : goal.returns-then-too_long
-returns-then-too_long c = let given = c.args in
-    sym
-    (opened_too_long given.key given.iv given.additional.now given.ciphertext.now given.tag given.out.now
-    (sym c.too_long.ensures ∙ c.if-too_long.true))
-
-pub returns-then-not-tag_is : goal.returns-then-not-tag_is
-returns-then-not-tag_is c = let given = c.args in
-    -- the comparison, under the key
-    let tagged = tag-keyed given.key c.expand_key-expanded.result given.iv c.expand_key-expanded.ensures given.additional.now
-    given.ciphertext.now given.tag _ c.tag_is.ensures in
-    sym
-    (opened_wrong given.key given.iv given.additional.now given.ciphertext.now given.tag given.out.now
-    (sym c.too_long.ensures ∙ c.if-too_long.false)
-    (rw tagged at c.if-not-tag_is.true))
-
-pub returns-then-out-ciphertext : goal.returns-then-out-ciphertext
-returns-then-out-ciphertext c = let given = c.args in
-    -- the comparison, under the key
-    let tagged = tag-keyed given.key c.expand_key-expanded.result given.iv c.expand_key-expanded.ensures given.additional.now
-    given.ciphertext.now given.tag _ c.tag_is.ensures in
-    sym
-    (opened_no_room given.key given.iv given.additional.now given.ciphertext.now given.tag given.out.now
-    (sym c.too_long.ensures ∙ c.if-too_long.false)
-    (rw tagged at c.if-not-tag_is.false)
-    c.if-out-ciphertext.true)
+pub returns-in_err-check_under : goal.returns-in_err-check_under
+returns-in_err-check_under c = let g = c.args in
+    let e = opened_refused g.key _ g.iv g.additional.now g.ciphertext.now g.tag g.out.now c.expand_key-expanded.ensures c.in_err-check_under.field-0.0
+    (sym c.check_under.ensures ∙ c.in_err-check_under.was) in
+    search rules
 
 pub returns : goal.returns
-returns c = let given = c.args in
-    -- the comparison, under the key
-    let tagged = tag-keyed given.key c.expand_key-expanded.result given.iv c.expand_key-expanded.ensures given.additional.now
-    given.ciphertext.now given.tag _ c.tag_is.ensures in
-    open_made c.expand_key-expanded.result given.iv given.ciphertext.now given.out.now _ c.if-out-ciphertext.false c.crypt.ensures
-    given.key given.additional.now given.tag c.expand_key-expanded.ensures
-    (sym c.too_long.ensures ∙ c.if-too_long.false) (rw tagged at c.if-not-tag_is.false)
+returns c = let g = c.args in
+    c.decrypt_under.ensures
+    ∙ sym
+    (opened-checked g.key _ g.iv g.additional.now g.ciphertext.now g.tag g.out.now c.expand_key-expanded.ensures
+    (sym c.check_under.ensures ∙ c.in_ok-check_under.was))

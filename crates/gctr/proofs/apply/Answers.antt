@@ -14,9 +14,6 @@ returns-then-out-src c = let given = c.args in
 pub loop-at-init : goal.loop-at-init
 loop-at-init c = (refl, streaming_none _ _ _ _)
 
-pub add_stream-at-requires : goal.add_stream-at-requires
-add_stream-at-requires c = record { at_in_bounds = omega arith; src_in_bounds = omega arith }
-
 pub loop-at-preserved : goal.loop-at-preserved
 loop-at-preserved c = let at-loop = c.loop-at in
     let given = c.args in (
@@ -24,9 +21,6 @@ loop-at-preserved c = let at-loop = c.loop-at in
       streaming_more given.expanded.now given.src.now given.out.now (value given.icb) (omega arith) c.loop-at-test.true
           c.add_stream-at.ensures.0 c.encipher.ensures c.add_stream-at.ensures.1 c.increment-cb.ensures at-loop.invariant.1,
     )
-
-pub shape_of-out : goal.shape_of-out
-shape_of-out c = c.loop-at.invariant.0
 
 pub returns : goal.returns
 returns c = streaming_all _ _ _ _ c.loop-at-test.false (omega arith) c.loop-at.invariant.1

@@ -1,5 +1,4 @@
-use Prim.Native.Nat.{◌-◌}
-use lib.ListN.{drop}
+use Rattle.std.proofs.Common.{drop}
 use Rattle.octets.specs.Lists.{octet}
 use Rattle.octets.specs.Xor.{◌⊕◌}
 use Rattle.octets.proofs.Rules.{Filled}
@@ -7,6 +6,3 @@ use Rattle.gctr.proofs.sums.Given as goal
 
 abbrev pub invariant-loop-j : goal.invariant-loop-j
 invariant-loop-j l = Filled 16 (λ k. octet (drop l.at l.src) k ⊕ octet l.stream k) l.out l.j
-
-abbrev pub decreases-loop-j : goal.decreases-loop-j
-decreases-loop-j l = 16 - l.j

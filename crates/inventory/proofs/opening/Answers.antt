@@ -5,4 +5,4 @@ use Rattle.inventory.proofs.Totals.{opening_octets}
 use Rattle.inventory.proofs.opening.Goals as goal
 
 pub returns : goal.returns
-returns c = opening_octets c.args.total (search rules)
+returns c = rw c.to_be_bytes.ensures (opening_octets c.args.total (search rules))

@@ -1,11 +1,7 @@
-use Prim.Native.Nat.{◌-◌, ◌≤◌}
 use Rattle.writing.specs.Output.{Put}
 use Rattle.writing.specs.Text.{end_to_end}
 use Rattle.inventory.specs.Inventory.{told_between}
 use Rattle.inventory.proofs.put_keys.Given as goal
 
 abbrev pub invariant-loop-k : goal.invariant-loop-k
-invariant-loop-k l = (l.k ≤ l.count) × Put l.initial.out l.place (end_to_end l.k (told_between l.image l.at l.first l.last)) l.out l.behind
-
-abbrev pub decreases-loop-k : goal.decreases-loop-k
-decreases-loop-k l = l.count - l.k
+invariant-loop-k l = Put l.initial.out l.place (end_to_end l.k (told_between l.image l.at l.first l.last)) l.out l.behind

@@ -6,4 +6,4 @@ use Rattle.inventory.proofs.told_of.Goals as goal
 
 pub returns : goal.returns
 unfolding bytes
-returns c = rw (← c.key_id_at-id.ensures, ← c.key_state_at.ensures, div-one)
+returns c = rw (c.to_be_bytes.ensures, ← c.key_id_at.ensures, ← c.key_state_at.ensures, div-one)

@@ -1,12 +1,8 @@
 use mathlib.Core.Path.{◌≡◌}
-use Prim.Native.Nat.{◌+◌, ◌-◌, ◌/◌}
-use lib.ListN.{take}
+use Prim.Native.Nat.{◌-◌, ◌/◌}
 use Rattle.key_schedule.specs.KeyExpansion.{round_constant}
 use Rattle.key_schedule.proofs.Schedule.{Scheduled}
 use Rattle.key_schedule.proofs.expand_key.Given as goal
 
-abbrev pub invariant-loop-n : goal.invariant-loop-n
-invariant-loop-n l = Scheduled (take 32 l.initial.w) l.w l.n × (l.constant ≡ round_constant ((8 + l.n - 1) / 8))
-
-abbrev pub decreases-loop-n : goal.decreases-loop-n
-decreases-loop-n l = 52 - l.n
+abbrev pub invariant-loop-i : goal.invariant-loop-i
+invariant-loop-i l = Scheduled l.fn.key l.w l.i × (l.constant ≡ round_constant ((l.i - 1) / 8))

@@ -34,7 +34,7 @@ pub returns-then-rest-eq16 : goal.returns-then-rest-eq16
 returns-then-rest-eq16 c = let given = c.args in
     let head = given.head.now in
     let body = given.body.now in
-    c.xor_blocks.ensures ∙ ap (xors 16 given.first) c.gathered-out.ensures
+    c.xors.ensures ∙ ap (xors 16 given.first) c.gathered-out.ensures
     ∙ whole-block (head ++ body) given.i given.first given.second c.requires (omega (arith, begins (goal.at.returns-then-rest-eq16 c).Start, length-append head body))
 
 pub returns : goal.returns
@@ -42,6 +42,6 @@ returns c = let given = c.args in
     let head = given.head.now in
     let body = given.body.now in
     let rest : ℕ = length head + length body - 16 * given.i in
-    c.xor_blocks-2.ensures ∙ ap (λ (l : List ℕ). xors 16 given.second (set l rest 0x80)) c.gathered-out.ensures
+    c.xors-2.ensures ∙ ap (λ (l : List ℕ). xors 16 given.second (set l rest 0x80)) c.gathered-out.ensures
     ∙ short_block (head ++ body) given.i given.first given.second c.requires rest (omega arith)
     (omega (arith, begins (goal.at.returns c).Start, length-append head body))

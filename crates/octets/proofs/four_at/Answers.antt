@@ -1,12 +1,14 @@
--- `four_at` is right because four octets are two pairs, and past the end all are 0.
+-- `four_at` is right because four octets are two pairs.
 -- Assumes nothing.
-use mathlib.Core.Path.{sym}
-use Rattle.octets.proofs.Reading.{number_at-add, number_at_past}
+use mathlib.Core.Path.{◌≡◌}
+use Prim.Native.Nat.{◌+◌}
+use native.Mathlib.Omega.{arith}
+use Rattle.octets.proofs.Reading.{number_at-add, number_at-two}
 use Rattle.octets.proofs.four_at.Goals as goal
-
-pub returns-then-s-at : goal.returns-then-s-at
-returns-then-s-at c = sym (number_at_past c.args.at 4 c.args.s.now c.if-s-at.true)
 
 pub returns : goal.returns
 returns c = let given = c.args in
-    rw (number_at-add given.at 2 2 given.s.now) (cc)
+    let at = given.at in
+    let s = given.s.now in
+    let last : at + 2 + 1 ≡ at + 3 = omega arith in
+    rw (number_at-add at 2 2 s, number_at-two at s, number_at-two (at + 2) s, last) (omega arith)

@@ -6,4 +6,4 @@ use Rattle.replies.proofs.status_reply.Goals as goal
 
 pub returns : goal.returns
 unfolding bytes
-returns c = rw (div-one c.args.spi)
+returns c = rw (c.to_be_bytes.ensures, div-one c.args.spi)

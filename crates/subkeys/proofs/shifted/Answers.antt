@@ -17,7 +17,7 @@ doubled : (a : ℕ) → a % 128 * 2 ≡ a * 2 % 256
 doubled a = omega arith
 
 pub loop-i-init : goal.loop-i-init
-loop-i-init c = (omega arith, filled_none refl)
+loop-i-init c = filled_none refl
 
 pub overflow_add-out-in-loop-i : goal.overflow_add-out-in-loop-i
 overflow_add-out-in-loop-i c = let f : Fits w8 (octet c.args.x (c.loop-i.i + 1)) = search rules in
@@ -26,7 +26,7 @@ overflow_add-out-in-loop-i c = let f : Fits w8 (octet c.args.x (c.loop-i.i + 1))
 pub loop-i-preserved : goal.loop-i-preserved
 loop-i-preserved c = let x = c.args.x in
     let i : ℕ = c.loop-i.i in
-    (omega arith, filled_more (omega arith) (ap (λ (n : ℕ). n + octet x (i + 1) / 128) (doubled (octet x i))) c.loop-i.invariant.1)
+    filled_more (omega arith) (ap (λ (n : ℕ). n + octet x (i + 1) / 128) (doubled (octet x i))) c.loop-i.invariant
 
 pub returns : goal.returns
 unfolding shifted
@@ -35,5 +35,5 @@ returns c = let x = c.args.x in
     let none : octet x 16 ≡ 0 = get_or-eq_default x 0 (omega arith) in
     let at-loop = c.loop-i in
     let e : at-loop.i ≡ 15 = omega arith in
-    let inv : Filled 16 (rule x) at-loop.out 15 = subst (λ (k : ℕ). Filled 16 (rule x) at-loop.out k) e at-loop.invariant.1 in
+    let inv : Filled 16 (rule x) at-loop.out 15 = subst (λ (k : ℕ). Filled 16 (rule x) at-loop.out k) e at-loop.invariant in
     filled_all (omega arith) (filled_more (omega arith) (omega (arith, doubled (octet x 15))) inv)

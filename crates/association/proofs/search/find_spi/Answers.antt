@@ -1,26 +1,22 @@
--- `find_spi` is right because a turn that goes on has passed an entry that has not the SPI for that desk, so what is left to find is found behind it.
+-- `find_spi` is right because the library's search of the numbers below the count finds the first that passes the test.
 -- Assumes nothing.
-use mathlib.Core.Path.{◌≡◌, sym, ◌∙◌}
-use Prim.Native.Nat.{◌-◌}
-use borrow.Author.Rules.{rules}
+use mathlib.Core.Path.{refl, sym, ap, ◌∙◌}
+use Prim.Native.Nat.{ℕ}
 use native.Mathlib.Omega.{arith}
-use Rattle.image.specs.Image.{count_of}
-use Rattle.association.specs.Search.{with_spi}
-use Rattle.association.proofs.Finding.{first-here, first_next, first-none}
+use Rattle.std.proofs.Common.{rules, tests}
+use Rattle.std.proofs.lemmas.Iterator.{YieldsList-from_range}
+use Rattle.std.proofs.lemmas.Iterator.Adapters.{option_map_id}
+use Rattle.std.proofs.lemmas.Iterator.Search.{find_from_yields_List}
+use Rattle.association.specs.Search.{has_spi, with_spi, first_from}
+use Rattle.association.proofs.Finding.{first-found}
 use Rattle.association.proofs.search.find_spi.Goals as goal
 
-pub loop-i-init : goal.loop-i-init
+pub returns : goal.returns
 unfolding with_spi
-loop-i-init c = let e : c.count_of-count.result - 0 ≡ count_of c.args.image.now = omega arith in
-    (search rules, rw e)
-
-pub loop-i-preserved : goal.loop-i-preserved
-loop-i-preserved c = let at-loop = c.loop-i in
-    (search rules, at-loop.invariant.1 ∙ first_next _ _ _ (search rules) (sym c.has_spi.ensures ∙ c.if-has_spi.false))
-
-pub returns-then-count-i : goal.returns-then-count-i
-returns-then-count-i c = sym (c.loop-i.invariant.1 ∙ first-none _ _ _ c.if-count-i.true)
-
-pub returns-then-has_spi : goal.returns-then-has_spi
-returns-then-has_spi c = let at-loop = c.loop-i in
-    sym (at-loop.invariant.1 ∙ first-here _ _ _ (search rules) (sym c.has_spi.ensures ∙ c.if-has_spi.true))
+returns c = let image = c.args.image.now in
+    let n = c.count_of.result in
+    let test = has_spi image c.args.desk c.args.spi in
+    sym (option_map_id c.find.result)
+    ∙ find_from_yields_List test _ _ c.find.result c.find.ensures.ran (YieldsList-from_range 0 n n refl (omega arith)) (λ x b q k. search (rules, tests))
+    ∙ first-found n 0 test
+    ∙ ap (λ (m : ℕ). first_from 0 m test) c.count_of.ensures

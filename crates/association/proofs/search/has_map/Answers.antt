@@ -2,8 +2,8 @@
 -- Assumes nothing.
 use Rattle.association.proofs.search.has_map.Goals as goal
 
-pub returns-in-Kind : goal.returns-in-Kind
-returns-in-Kind c = rw (← c.kind_of.ensures, c.in-Kind.is, c.most_map.ensures)
+pub returns-in-Some : goal.returns-in-Some
+returns-in-Some c = rw (← c.kind_of.ensures, c.in-Some.is, c.most_map.ensures)
 
-pub returns-in-Nothing : goal.returns-in-Nothing
-returns-in-Nothing c = rw (← c.kind_of.ensures, c.in-Nothing.is)
+pub returns-in-None : goal.returns-in-None
+returns-in-None c = rw (← c.kind_of.ensures, c.in-None.is)

@@ -30,4 +30,4 @@ eight at s high low e f =
 
 pub returns : goal.returns
 returns c = let given = c.args in
-    eight given.at given.octets.now c.four_octets-high.result c.four_octets-low.result c.four_octets-high.ensures c.four_octets-low.ensures
+    eight given.at given.octets.now c.from_be_bytes-high.result c.from_be_bytes-low.result (omega arith) (omega arith)

@@ -1,22 +1,27 @@
--- `enter_word` is right because the register after an octet more has the bits of a word down to that octet.
+-- `enter_word` is right because the register after n octets of a word has the bits of their number.
 -- Assumes nothing.
-use borrow.Author.Rules.{rules}
 use native.Mathlib.Omega.{arith}
-use mathlib.Core.Path.{refl}
-use Rattle.check_field.proofs.Entering.{word_none, word_next, word-all}
+use mathlib.Core.Path.{◌≡◌, ap, ◌∙◌}
+use Rattle.octets.specs.Numbers.{number}
+use Rattle.octets.proofs.Numbers.{bytes-std, number-bytes}
+use Rattle.check_field.specs.Register.{after_bits}
+use Rattle.check_field.proofs.Entering.{none_entered, octet_entered}
 use Rattle.check_field.proofs.wide.enter_word.Goals as goal
 
-pub loop-left-init : goal.loop-left-init
-loop-left-init c = (omega arith, refl, word_none c.args.word (search rules))
+pub loop-octet-init : goal.loop-octet-init
+unfolding number
+loop-octet-init c = none_entered
 
-pub loop-left-preserved : goal.loop-left-preserved
-loop-left-preserved c = let at-loop = c.loop-left in
-    let word = c.args.word in (
-      omega arith,
-      omega arith,
-      word_next at-loop.left word at-loop.register c.enter-register.result (omega arith) (omega arith) at-loop.invariant.2 c.enter-register.ensures,
-    )
+pub loop-octet-preserved : goal.loop-octet-preserved
+loop-octet-preserved c = let at-loop = c.loop-octet in
+    octet_entered at-loop.octet-index c.to_be_bytes-octet-items.result at-loop.register c.enter-register.result c.loop-octet-test.element_fits.fits at-loop.invariant
+    c.enter-register.ensures
 
 pub returns : goal.returns
-returns c = let at-loop = c.loop-left in
-    word-all at-loop.left c.args.word at-loop.register (omega arith) at-loop.invariant.2
+returns c = let at-loop = c.loop-octet in
+    let word = c.args.word in
+    let all : at-loop.octet-index ≡ 8 = omega arith in
+    let whole : number 8 c.to_be_bytes-octet-items.result ≡ word =
+    ap (number 8) (c.to_be_bytes-octet-items.ensures ∙ bytes-std 8 word) ∙ number-bytes 8 word (omega arith)
+    in
+    rw all at at-loop.invariant ∙ ap (after_bits 64 0) whole

@@ -1,10 +1,8 @@
 use mathlib.Core.Path.{◌≡◌}
-use Prim.Native.Nat.{◌-◌, ◌/◌, ◌%◌, ◌^◌, ◌≤◌}
+use Prim.Native.Nat.{◌*◌}
+use Rattle.octets.specs.Numbers.{number}
 use Rattle.check_field.specs.Register.{after_bits}
 use Rattle.check_field.proofs.wide.enter_word.Given as goal
 
-abbrev pub invariant-loop-left : goal.invariant-loop-left
-invariant-loop-left l = (l.left ≤ 64) × (l.left % 8 ≡ 0) × (l.register ≡ after_bits (64 - l.left) 0 (l.word / 2 ^ l.left))
-
-abbrev pub decreases-loop-left : goal.decreases-loop-left
-decreases-loop-left l = l.left
+abbrev pub invariant-loop-octet : goal.invariant-loop-octet
+invariant-loop-octet l = l.register ≡ after_bits (8 * l.octet-index) 0 (number l.octet-index l.octet-items)

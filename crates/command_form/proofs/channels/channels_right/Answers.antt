@@ -5,28 +5,17 @@ use native.Mathlib.Numerals.{add-one}
 use native.Mathlib.Omega.{arith}
 use Rattle.octets.specs.Lists.{all}
 use Rattle.command_form.specs.Channels.{channel_count, channels_right}
-use borrow.Author.Rules.{rules}
 use Rattle.command_form.proofs.channels.channels_right.Goals as goal
 
 pub loop-i-init : goal.loop-i-init
 unfolding all
-loop-i-init c = (search rules, refl)
-
-pub overflow_mul-i : goal.overflow_mul-i
-overflow_mul-i c = record { fits = omega (arith, c.channel_count-count.ensures) }
-
-pub overflow_add-i : goal.overflow_add-i
-overflow_add-i c = record { fits = omega (arith, c.channel_count-count.ensures) }
+loop-i-init c = refl
 
 pub loop-i-preserved : goal.loop-i-preserved
 unfolding all
-loop-i-preserved c = (
-  search rules,
-  rw (c.names_one-ok.ensures, c.four_at.ensures, c.loop-i.invariant.1, add-one),
-)
+loop-i-preserved c = rw (c.names_one-ok.ensures, c.four_at.ensures, c.loop-i.invariant, add-one)
 
 pub returns : goal.returns
 unfolding channels_right
-returns c = let e = c.channel_count-count.ensures in
-    let all_of : c.loop-i.i ≡ channel_count c.args.value.now = omega arith in
-    rw (← all_of) c.loop-i.invariant.1
+returns c = let all_of : c.loop-i.i ≡ channel_count c.args.value.now = omega (arith, c.channel_count-i-end.ensures) in
+    rw (← all_of) c.loop-i.invariant

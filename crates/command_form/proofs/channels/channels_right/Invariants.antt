@@ -1,5 +1,4 @@
 use mathlib.Core.Path.{◌≡◌}
-use Prim.Native.Nat.{◌-◌, ◌≤◌}
 use Rattle.octets.specs.Lists.{all}
 use Rattle.kinds.specs.Kinds.{named}
 use Rattle.bodies.specs.Body.{body_in, kind_in}
@@ -8,7 +7,4 @@ use Rattle.command_form.proofs.channels.channels_right.Given as goal
 
 abbrev pub invariant-loop-i : goal.invariant-loop-i
 invariant-loop-i l = let body = body_in l.image l.version l.at in
-    (l.i ≤ l.count) × (l.ok ≡ all l.i (λ j. names_one l.version (named (kind_in body)) body (channel_named l.value j)))
-
-abbrev pub decreases-loop-i : goal.decreases-loop-i
-decreases-loop-i l = l.count - l.i
+    l.ok ≡ all l.i (λ j. names_one l.version (named (kind_in body)) body (channel_named l.value j))

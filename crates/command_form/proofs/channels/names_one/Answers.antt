@@ -2,8 +2,8 @@
 -- Assumes nothing.
 use Rattle.command_form.proofs.channels.names_one.Goals as goal
 
-pub returns-in-Kind : goal.returns-in-Kind
-returns-in-Kind c = rw (← c.kind_in.ensures, ← c.kind_of.ensures, c.in-Kind.is) c.kind_names.ensures
+pub returns-in-Some : goal.returns-in-Some
+returns-in-Some c = rw (← c.kind_in.ensures, ← c.kind_of.ensures, c.in-Some.is) c.kind_names.ensures
 
-pub returns-in-Nothing : goal.returns-in-Nothing
-returns-in-Nothing c = rw (← c.kind_in.ensures, ← c.kind_of.ensures, c.in-Nothing.is)
+pub returns-in-None : goal.returns-in-None
+returns-in-None c = rw (← c.kind_in.ensures, ← c.kind_of.ensures, c.in-None.is)

@@ -7,4 +7,4 @@ use Rattle.event_log.proofs.dumping.front_of.Goals as goal
 
 pub returns : goal.returns
 unfolding bytes
-returns c = rw (div-one (5 * c.args.n))
+returns c = rw (c.to_be_bytes.ensures, div-one (5 * c.args.n))

@@ -9,4 +9,4 @@ use Rattle.event_log.proofs.dumping.write_erase_reply.Goals as goal
 
 pub returns : goal.returns
 returns c = let g = c.args in
-    c.put.ensures ∙ ap (λ (t : List ℕ). fronted t g.output.now) (erase-octets _ _ c.room_for.ensures.0)
+    c.put.ensures ∙ ap (λ (t : List ℕ). fronted t g.output.now) (rw c.to_be_bytes.ensures (erase-octets _ _ c.room_for.ensures.0))

@@ -4,9 +4,9 @@ use Rattle.frame.proofs.parts.clear_parts.Goals as goal
 
 pub returns : goal.returns
 returns c = rw (
-  c.less-2.ensures,
+  c.saturating_sub-2.ensures,
   c.field_length.ensures,
-  c.less.ensures,
+  c.saturating_sub.ensures,
   c.trailer_length.ensures,
   c.header_length.ensures,
 )

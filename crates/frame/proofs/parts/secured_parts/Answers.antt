@@ -9,4 +9,4 @@ overflow_add-result c = let given = c.args in
     record { fits = omega (arith, header_short given.framing.kind given.frame.now) }
 
 pub returns : goal.returns
-returns c = rw (c.less.ensures, c.less-mac.ensures, c.trailer_length.ensures, c.header_length-header.ensures)
+returns c = rw (c.saturating_sub.ensures, c.saturating_sub-mac.ensures, c.trailer_length.ensures, c.header_length-header.ensures)

@@ -3,9 +3,9 @@
 use Rattle.frame.specs.Rules.{obeys}
 use Rattle.frame.proofs.rules.obeys.Goals as goal
 
-pub returns-in-Kind : goal.returns-in-Kind
-returns-in-Kind c = rw (← c.kind_of.ensures, c.in-Kind.is) c.framing_obeyed.ensures
+pub returns-in-Some : goal.returns-in-Some
+returns-in-Some c = rw (← c.kind_of.ensures, c.in-Some.is) c.framing_obeyed.ensures
 
-pub returns-in-Nothing : goal.returns-in-Nothing
+pub returns-in-None : goal.returns-in-None
 unfolding obeys
-returns-in-Nothing c = rw (← c.kind_of.ensures, c.in-Nothing.is)
+returns-in-None c = rw (← c.kind_of.ensures, c.in-None.is)

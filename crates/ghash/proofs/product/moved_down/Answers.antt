@@ -1,12 +1,8 @@
 -- `moved_down` is right because the bits that leave the high half enter the low one, and those at the top meet nothing.
 -- Assumes nothing.
-use Rattle.ghash.proofs.Unreduced.{lower_lt, down_halves}
+use Rattle.ghash.proofs.Unreduced.{down_halves}
 use borrow.Author.Rules.{rules}
 use Rattle.ghash.proofs.product.moved_down.Goals as goal
-
-pub overflow_add-result-2 : goal.overflow_add-result-2
-overflow_add-result-2 c = let z = c.args.z in
-    record { fits = lower_lt z.hi z.lo (search rules) }
 
 pub returns : goal.returns
 returns c = let given = c.args in

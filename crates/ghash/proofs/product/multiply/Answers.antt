@@ -1,9 +1,6 @@
--- `multiply` is right because each turn does four more bits of each quarter, and all are joined and reduced when their bits are done.
+-- Each turn does four more bits of each quarter, and all are joined and reduced when their bits are done.
 -- Assumes nothing.
-use borrow.Author.Rules.{rules}
-use native.Mathlib.Omega.{arith}
-use mathlib.Core.Path.{◌≡◌, refl, ap, ap₂, ◌∙◌}
-use Prim.Native.Nat.{ℕ, ◌/◌, ◌^◌}
+use Rattle.std.proofs.Common.{◌≡◌, ℕ, ◌/◌, ◌^◌, refl, ap, ap₂, ◌∙◌, arith, rules}
 use Rattle.octets.specs.Xor.{◌⊕◌}
 use Rattle.ghash.specs.Product.{next_v, product_rounds}
 use Rattle.block.specs.Halves.{value}
@@ -15,14 +12,6 @@ use Rattle.ghash.proofs.product.multiply.Goals as goal
 pub loop-k-init : goal.loop-k-init
 unfolding product_rounds nexts next_v
 loop-k-init c = (omega arith, refl, λ h is. record { empty = refl; sums = refl }, λ h is. record { empty = refl; sums = refl })
-
-pub loop-k-preserved : goal.loop-k-preserved
-loop-k-preserved c = let at-loop = c.loop-k in (
-  omega arith,
-  omega arith,
-  λ h is. c.four_more-low_more.ensures h is (at-loop.invariant.2 h is),
-  λ h is. c.four_more-high_more.ensures h is (at-loop.invariant.3 h is),
-)
 
 pub returns : goal.returns
 returns c h is = let at-loop = c.loop-k in

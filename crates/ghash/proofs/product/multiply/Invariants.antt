@@ -1,5 +1,4 @@
-use mathlib.Core.Path.{◌≡◌}
-use Prim.Native.Nat.{ℕ, ◌≤◌, ◌-◌, ◌%◌}
+use Rattle.std.proofs.Common.{◌≡◌, ℕ, ◌≤◌, ◌%◌}
 use Rattle.block.specs.Halves.{value}
 use Rattle.ghash.specs.Partway.{Partway}
 use Rattle.ghash.specs.Table.{IsTableOf}
@@ -10,6 +9,3 @@ invariant-loop-k l = (l.k ≤ 32)
     × (l.k % 4 ≡ 0)
     × ((h : ℕ) → IsTableOf h l.t → Partway h l.x.hi l.x.lo l.k (value l.lower.high) (value l.lower.low))
     × ((h : ℕ) → IsTableOf h l.t → Partway h l.above.hi l.above.lo l.k (value l.upper.high) (value l.upper.low))
-
-abbrev pub decreases-loop-k : goal.decreases-loop-k
-decreases-loop-k l = 32 - l.k

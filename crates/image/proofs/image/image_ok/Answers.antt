@@ -4,9 +4,6 @@ use mathlib.Core.Path.{sym, ◌∙◌}
 use Rattle.image.specs.Image.{valid_image}
 use Rattle.image.proofs.image.image_ok.Goals as goal
 
-pub entries_ok-requires : goal.entries_ok-requires
-entries_ok-requires c = sym c.laid_out.ensures ∙ c.if-laid_out.true
-
 pub returns-then-laid_out : goal.returns-then-laid_out
 unfolding valid_image
 returns-then-laid_out c = simp (sym c.laid_out.ensures ∙ c.if-laid_out.true)

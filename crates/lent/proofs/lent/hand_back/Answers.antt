@@ -1,6 +1,5 @@
 -- `hand_back` is right because after i turns the first i numbers of the lent list are those that come back: one that is equal needs no store.
 -- Assumes nothing.
--- an element that is right already
 use mathlib.Core.Path.{◌≡◌, ◌∙◌, refl, subst}
 use mathlib.Core.List.{List}
 use Prim.Native.Nat.{ℕ, ◌+◌, ◌<◌}
@@ -14,6 +13,7 @@ use borrow.Author.Rules.{rules}
 use Rattle.lent.proofs.lent.hand_back.Goals.{then-lent-i, else-lent-i}
 use Rattle.lent.proofs.lent.hand_back.Goals as goal
 
+-- an element that is right already
 filled-kept : {n i : ℕ} {f : ℕ → ℕ} {out : List ℕ} → i < n → octet out i ≡ f i → Filled n f out i → Filled n f out (i + 1)
 filled-kept {n} {i} {f} {out} h e g = subst (λ (o : List ℕ). Filled n f o (i + 1)) (set-get_or out i 0) (filled_more h e g)
 
@@ -31,4 +31,4 @@ loop-i-preserved c = let at-loop = c.loop-i in
 pub returns : goal.returns
 returns c = let last = c.args.numbers.last in
     let long : length last ≡ 32 = search rules in
-    filled_all c.loop-i-test.false c.loop-i.invariant ∙ rw (← long) (tab_self last)
+    filled_all (omega arith) c.loop-i.invariant ∙ rw (← long) (tab_self last)

@@ -1,10 +1,6 @@
-use Prim.Native.Nat.{◌-◌}
 use Rattle.octets.specs.Lists.{octet}
 use Rattle.octets.proofs.Rules.{Filled}
 use Rattle.lent.proofs.lent.hand_back.Given as goal
 
 abbrev pub invariant-loop-i : goal.invariant-loop-i
 invariant-loop-i l = Filled 32 (octet l.last) l.lent l.i
-
-abbrev pub decreases-loop-i : goal.decreases-loop-i
-decreases-loop-i l = 32 - l.i

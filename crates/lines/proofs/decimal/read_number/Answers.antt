@@ -1,26 +1,21 @@
 -- `read_number` is right because what the text spells is always what the digits that are left make of the number so far.
 -- Assumes nothing.
-use mathlib.Core.Path.{◌∙◌, sym}
-use borrow.Author.Rules.{rules}
+use Rattle.std.proofs.Common.{rules, ◌∙◌, sym}
 use Rattle.lines.proofs.DecimalLaws.{empty, first_digit, next_digit, digit_refused, ended}
 use Rattle.lines.proofs.decimal.read_number.Goals as goal
 
-pub returns-then-text-eq0 : goal.returns-then-text-eq0
-returns-then-text-eq0 c = empty c.args.text.now c.if-text-eq0.true
+pub returns-then-is_empty : goal.returns-then-is_empty
+returns-then-is_empty c = empty _ (search rules)
 
-pub loop-i-init : goal.loop-i-init
-loop-i-init c = (search rules, first_digit c.args.text.now c.if-text-eq0.false)
+pub loop-c-init : goal.loop-c-init
+loop-c-init c = first_digit _ (search rules)
 
-pub returns-in_default : goal.returns-in_default
-returns-in_default c = digit_refused c.args.text.now c.loop-i.n c.loop-i.i (search rules) (cc)
-    ∙ sym c.loop-i.invariant.1
+pub returns-in_err-n : goal.returns-in_err-n
+returns-in_err-n c =
+    let e = digit_refused c.args.text.now c.loop-c.n c.loop-c.c-index (search rules) (search rules) in cc
 
-pub loop-i-preserved : goal.loop-i-preserved
-loop-i-preserved c =
-    let text = c.args.text.now in
-    (search rules, c.loop-i.invariant.1 ∙ next_digit text c.loop-i.n c.loop-i.i _ (search rules) (cc))
+pub loop-c-preserved : goal.loop-c-preserved
+loop-c-preserved c = c.loop-c.invariant ∙ next_digit c.args.text.now c.loop-c.n c.loop-c.c-index c.in_ok-n.n (search rules) (search rules)
 
 pub returns : goal.returns
-returns c =
-    let at-loop = c.loop-i in
-    ended c.args.text.now at-loop.n at-loop.i (search rules) ∙ sym at-loop.invariant.1
+returns c = ended c.args.text.now c.loop-c.n c.loop-c.c-index (search rules) ∙ sym c.loop-c.invariant

@@ -1,21 +1,14 @@
--- `field` is right because field n of the line is, at every turn, field `left` of what is left of the line.
+-- `field` is right because field n of the line is, at every turn, a field of what is left of the line.
 -- Assumes nothing.
-use mathlib.Core.Path.{◌≡◌, ◌∙◌, refl, sym}
-use native.Mathlib.Omega.{arith}
-use borrow.Author.Rules.{rules}
-use Rattle.lines.proofs.FieldLaws.{is-first, is-next}
+use Rattle.std.proofs.Common.{◌∙◌, sym, arith}
+use Rattle.lines.proofs.FieldLaws.{next_field, last_field}
 use Rattle.lines.proofs.fields.field.Goals as goal
 
-pub loop-left-init : goal.loop-left-init
-loop-left-init c = (search rules, refl)
-
-pub loop-left-preserved : goal.loop-left-preserved
-loop-left-preserved c =
-    let at-loop = c.loop-left in
-    (search rules, at-loop.invariant.1 ∙ is-next _ _ at-loop.left (search rules) c.behind_field-from.ensures.line_value)
+pub loop-preserved : goal.loop-preserved
+loop-preserved c =
+    rw c.behind_field-rest.ensures (c.loop.invariant ∙ next_field c.args.n c.loop.counter c.loop.rest.now (omega arith))
 
 pub returns : goal.returns
 returns c =
-    let at-loop = c.loop-left in
-    let last : at-loop.left ≡ 0 = omega arith in
-    is-first _ _ _ c.field_end-end.ensures.value ∙ sym (rw last at at-loop.invariant.1)
+    rw c.field_length.ensures.value
+    (last_field c.args.n c.loop.counter c.loop.rest.now (omega arith) ∙ sym c.loop.invariant)

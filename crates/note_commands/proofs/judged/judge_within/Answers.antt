@@ -1,6 +1,6 @@
 -- `judge_within` is right because it asks the definition's tests in their order, and each way out is the first that applies.
 -- Assumes nothing.
-use mathlib.Core.Path.{◌≡◌, refl, sym, ap, ◌∙◌}
+use mathlib.Core.Path.{◌≡◌, sym, ap, ◌∙◌}
 use mathlib.Core.Bool.{Bool, true, false, not}
 use mathlib.Core.List.{List}
 use Prim.Native.Nat.{ℕ}
@@ -9,7 +9,7 @@ use borrow.Author.Tests.{lt-ltb, le-ltb}
 use lib.ListN.{length, drop}
 use Rattle.command_form.specs.Form.{tag_of}
 use Rattle.judging.specs.Answers.{Test, first}
-use Rattle.judging.specs.declared.answers.Answer.TheVariants as answer
+use Rattle.judging.specs.declared.answers.Refusal.TheVariants as refused
 use Rattle.judging.proofs.Admitting.{refuses}
 use Rattle.judging.proofs.First.{none_left, applies, passes}
 use Rattle.event_log.specs.Held.{LentLog, lent_log}
@@ -42,7 +42,7 @@ module _ (log : LentLog) (desk : ℕ) (command : List ℕ) (room : ℕ) where
 pub returns-then-wrong_desk : goal.returns-then-wrong_desk
 returns-then-wrong_desk c =
     let g = c.args in
-    refuses answer.WrongDesk _ 19 refl (omega arith)
+    refuses refused.WrongDesk _ (omega arith)
     (applies 19 _ _
     (sym (wrong (lent_log g.log g.events.now) g.desk g.command.now g.room c.octet_at-tag.ensures c.wrong_desk.ensures)
     ∙ c.if-wrong_desk.true))
@@ -50,7 +50,7 @@ returns-then-wrong_desk c =
 pub returns-then-not-bare : goal.returns-then-not-bare
 returns-then-not-bare c =
     let g = c.args in
-    refuses answer.BadCommand _ 13 refl (omega arith)
+    refuses refused.BadCommand _ (omega arith)
     (past-19 (lent_log g.log g.events.now) g.desk g.command.now g.room c.octet_at-tag.ensures c.wrong_desk.ensures c.if-wrong_desk.false
     ∙ applies 13 _ _ (ap not (sym c.bare.ensures ∙ c.if-not-bare.true)))
 
@@ -58,7 +58,7 @@ pub returns-then-room-size : goal.returns-then-room-size
 returns-then-room-size c =
     let g = c.args in
     let log = lent_log g.log g.events.now in
-    refuses answer.NoRoom _ 6 refl (omega arith)
+    refuses refused.NoRoom _ (omega arith)
     (past-13 log g.desk g.command.now g.room c.octet_at-tag.ensures c.wrong_desk.ensures c.if-wrong_desk.false c.bare.ensures c.if-not-bare.false
     ∙ applies 6 _ _
     (lt-ltb g.room _ (omega (arith, sized log g.desk g.command.now g.room c.octet_at-tag.ensures c.reply_size-size.ensures))))

@@ -1,14 +1,8 @@
 -- `raise` is right because it makes the first j of the stores that the plan names.
 -- Assumes nothing.
-use mathlib.Core.Path.{ap, ◌∙◌}
-use lib.ListN.{length}
-use Rattle.marks.proofs.Made.{length-stored}
 use Rattle.numbers.specs.Stores.{stores_made, after_stores}
 use Rattle.numbers.proofs.stores.raise.Goals as goal
 
 pub returns : goal.returns
 unfolding stores_made after_stores
 returns c = rw (← c.plan_for.ensures) c.make.ensures
-
-pub shape_of-image : goal.shape_of-image
-shape_of-image c = ap length c.make.ensures.1 ∙ length-stored _ _

@@ -12,9 +12,6 @@ loop-i-init c = filled_none refl
 pub loop-i-preserved : goal.loop-i-preserved
 loop-i-preserved c = filled_more (search rules) c.octet_behind.ensures c.loop-i.invariant
 
-pub shape_of-out : goal.shape_of-out
-shape_of-out c = c.loop-i.invariant.long
-
 pub returns : goal.returns
 unfolding part
 returns c = filled_all (search rules) c.loop-i.invariant

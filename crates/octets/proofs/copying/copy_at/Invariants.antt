@@ -1,4 +1,4 @@
-use Prim.Native.Nat.{◌+◌, ◌-◌}
+use Prim.Native.Nat.{◌+◌}
 use lib.ListN.{length}
 use Rattle.octets.specs.Lists.{octet}
 use Rattle.octets.proofs.Rules.{Filled}
@@ -6,6 +6,3 @@ use Rattle.octets.proofs.copying.copy_at.Given as goal
 
 abbrev pub invariant-loop-i : goal.invariant-loop-i
 invariant-loop-i l = Filled (length l.initial.out) (λ j. octet l.s (l.at + j)) l.out l.i
-
-abbrev pub decreases-loop-i : goal.decreases-loop-i
-decreases-loop-i l = length l.initial.out - l.i

@@ -8,7 +8,7 @@ use Rattle.reports.proofs.Reports.with.Goals as goal
 
 pub returns-then-desk-lt-DESKS : goal.returns-then-desk-lt-DESKS
 returns-then-desk-lt-DESKS c = let a = c.args in
-    stored a.self.octets a.desk a.report c.first_octet.result c.first_octet.ensures c.if-desk-lt-DESKS.true (search rules)
+    rw c.to_be_bytes.ensures (stored a.self.octets a.desk a.report c.first_octet.result c.first_octet.ensures c.if-desk-lt-DESKS.true (search rules))
 
 pub returns : goal.returns
 returns c = let a = c.args in sym (no_desk_lem a.self.octets a.desk a.report (omega arith))

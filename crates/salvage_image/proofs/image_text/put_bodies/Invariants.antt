@@ -1,12 +1,7 @@
-use Prim.Native.Nat.{◌-◌, ◌≤◌}
-use lib.ListN.{length}
 use Rattle.writing.specs.Output.{Put}
 use Rattle.writing.specs.Text.{end_to_end}
 use Rattle.salvage_image.specs.Salvage.{new_body}
 use Rattle.salvage_image.proofs.image_text.put_bodies.Given as goal
 
 abbrev pub invariant-loop-i : goal.invariant-loop-i
-invariant-loop-i l = (l.i ≤ length l.kept) × Put l.initial.out l.at (end_to_end l.i (new_body l.x)) l.out l.behind
-
-abbrev pub decreases-loop-i : goal.decreases-loop-i
-decreases-loop-i l = length l.kept - l.i
+invariant-loop-i l = Put l.initial.out l.at (end_to_end l.i (new_body l.x)) l.out l.behind

@@ -1,11 +1,7 @@
-use Prim.Native.Nat.{◌-◌, ◌≤◌}
 use Rattle.writing.specs.Output.{Put}
 use Rattle.writing.specs.Text.{end_to_end}
 use Rattle.salvage_image.specs.Salvage.{new_entry}
 use Rattle.salvage_image.proofs.image_text.put_contents.Given as goal
 
 abbrev pub invariant-loop-i : goal.invariant-loop-i
-invariant-loop-i l = (l.i ≤ l.count) × Put l.initial.out l.at (end_to_end l.i (new_entry l.x)) l.out l.behind
-
-abbrev pub decreases-loop-i : goal.decreases-loop-i
-decreases-loop-i l = l.count - l.i
+invariant-loop-i l = Put l.initial.out l.at (end_to_end l.i (new_entry l.x)) l.out l.behind

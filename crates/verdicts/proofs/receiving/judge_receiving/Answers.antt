@@ -19,7 +19,7 @@ use Rattle.protection.specs.Protection.{mac_right, clear_length}
 use Rattle.opening.specs.Steps.{Opens}
 use Rattle.judging.specs.Answers.{Test, first}
 use Rattle.judging.specs.Replies.{receiving_tests}
-use Rattle.judging.specs.declared.answers.Answer.TheVariants as answer
+use Rattle.judging.specs.declared.answers.Refusal.TheVariants as refused
 use Rattle.verdicts.proofs.Accepting.{accepted_low}
 use Rattle.judging.proofs.First.{none_left, applies, passes}
 use Rattle.verdicts.proofs.Granting.{opens}
@@ -48,7 +48,7 @@ shortness c = c.too_short.ensures ∙ ap (λ (s : ℕ). parts.too_short (kind c)
 
 pub returns-then-too_short : goal.returns-then-too_short
 returns-then-too_short c = let d = (goal.at.returns-then-too_short c).After-too_short in
-    refuses answer.TooShort _ 5 refl (omega arith) (applies 5 _ _ (sym (shortness d) ∙ c.if-too_short.true))
+    refuses refused.TooShort _ (omega arith) (applies 5 _ _ (sym (shortness d) ∙ c.if-too_short.true))
 
 past-5 : (c : After-too_short) → c.too_short.result ≡ false → first (tests c) ≡ first (drop 1 (tests c))
 past-5 c e = passes 5 _ _ (sym (shortness c) ∙ e)
@@ -64,7 +64,7 @@ opened c e =
 
 pub returns-then-room-size : goal.returns-then-room-size
 returns-then-room-size c = let d = (goal.at.returns-then-room-size c).After-too_short in
-    refuses answer.NoRoom _ 6 refl (omega arith)
+    refuses refused.NoRoom _ (omega arith)
     (past-5 d c.if-too_short.false
     ∙ applies 6 _ _ (lt-ltb d.args.room (clear_length (held d) (kind d) (frame d)) (omega (arith, c.clear_length-size.ensures))))
 
@@ -76,7 +76,7 @@ past-6 c e l = past-5 c e ∙ passes 6 _ _ (le-ltb c.args.room (clear_length (he
 
 pub returns-then-not-mac_right : goal.returns-then-not-mac_right
 returns-then-not-mac_right c = let d = (goal.at.returns-then-not-mac_right c).After-too_short in
-    refuses answer.WrongMac _ 7 refl (omega arith)
+    refuses refused.WrongMac _ (omega arith)
     (past-6 d c.if-too_short.false (omega (arith, c.clear_length-size.ensures))
     ∙ applies 7 _ _ (ap not (sym c.mac_right.ensures ∙ c.if-not-mac_right.true)))
 
@@ -89,7 +89,7 @@ past-7 c e l m = past-6 c e l ∙ passes 7 _ _ (ap not m)
 pub returns-then-not-accepts : goal.returns-then-not-accepts
 returns-then-not-accepts c = let d = (goal.at.returns-then-not-accepts c).After-too_short in
     let tested = c.accepts.ensures ∙ ap (accepts d.args.last (held d).window) c.number_of-sequence.ensures in
-    refuses answer.OutsideWindow _ 8 refl (omega arith)
+    refuses refused.OutsideWindow _ (omega arith)
     (past-7 d c.if-too_short.false (omega (arith, c.clear_length-size.ensures)) (sym c.mac_right.ensures ∙ c.if-not-mac_right.false)
     ∙ applies 8 _ _ (ap not (sym tested ∙ c.if-not-accepts.true)))
 

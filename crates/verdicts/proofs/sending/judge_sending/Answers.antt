@@ -16,7 +16,7 @@ use Rattle.services.specs.SecurityHeader.{security_length}
 use Rattle.protection.specs.Protection.{secured_length}
 use Rattle.judging.specs.Answers.{Test, first}
 use Rattle.judging.specs.Replies.{sending_tests}
-use Rattle.judging.specs.declared.answers.Answer.TheVariants as answer
+use Rattle.judging.specs.declared.answers.Refusal.TheVariants as refused
 use Rattle.judging.proofs.First.{none_left, applies, passes}
 use Rattle.judging.proofs.Admitting.{refuses}
 use Rattle.verdicts.proofs.sending.judge_sending.Goals.{After-exceeds}
@@ -49,7 +49,7 @@ exceeding c = c.exceeds.ensures ∙ ap (λ (s : ℕ). parts.exceeds (kind c) s (
 
 pub returns-then-exceeds : goal.returns-then-exceeds
 returns-then-exceeds c = let d = (goal.at.returns-then-exceeds c).After-exceeds in
-    refuses answer.TooLong _ 11 refl (omega arith) (applies 11 _ _ (sym (exceeding d) ∙ c.if-exceeds.true))
+    refuses refused.TooLong _ (omega arith) (applies 11 _ _ (sym (exceeding d) ∙ c.if-exceeds.true))
 
 past-11 : (c : After-exceeds) → c.exceeds.result ≡ false → first (tests c) ≡ first (drop 1 (tests c))
 past-11 c e = passes 11 _ _ (sym (exceeding c) ∙ e)
@@ -58,7 +58,7 @@ past-11 c e = passes 11 _ _ (sym (exceeding c) ∙ e)
 
 pub returns-then-room-size : goal.returns-then-room-size
 returns-then-room-size c = let d = (goal.at.returns-then-room-size c).After-exceeds in
-    refuses answer.NoRoom _ 6 refl (omega arith)
+    refuses refused.NoRoom _ (omega arith)
     (past-11 d c.if-exceeds.false ∙ applies 6 _ _ (lt-ltb d.args.room (secured_length (held d) (frame d)) (omega (arith, sized d))))
 
 past-6 : (c : After-exceeds) → c.exceeds.result ≡ false → c.secured_length-size.result ≤ c.args.room
@@ -69,7 +69,7 @@ past-6 c e l = past-11 c e ∙ passes 6 _ _ (le-ltb c.args.room (secured_length 
 
 pub returns-then-last-eq-GREATEST : goal.returns-then-last-eq-GREATEST
 returns-then-last-eq-GREATEST c = let d = (goal.at.returns-then-last-eq-GREATEST c).After-exceeds in
-    refuses answer.NumbersSpent _ 10 refl (omega arith)
+    refuses refused.NumbersSpent _ (omega arith)
     (past-6 d c.if-exceeds.false c.if-room-size.false ∙ applies 10 _ _ (le-leb 4294967295 d.args.last (omega arith)))
 
 past-10 : (c : After-exceeds) → c.exceeds.result ≡ false → c.secured_length-size.result ≤ c.args.room → c.args.last < 4294967295
