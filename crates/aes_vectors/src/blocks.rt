@@ -1,8 +1,14 @@
 // The vectors of AES-256.
 use vector_lines::{is_empty, is_field, key, octets, spells};
 
-// Whether field 1 is word n of the expanded key.
+// The words of an expanded key.
+const WORDS: u64 = 60;
+
+// Whether field 1 is word n of the expanded key. Behind the last word no key is expanded: that is most of what such a line would cost.
 fn is_in_expanded_key(n: u64, line: &[u8]) -> bool {
+    if n >= WORDS {
+        return false;
+    }
     let expanded = cipher::expand_key(key(line));
     let (words, _) = expanded.as_chunks::<4>();
     words

@@ -35,7 +35,8 @@ fn is_opened_with(line: &[u8], additional: &[u8]) -> bool
     ensures { result ≡ true → OpenedFrom line.now additional.now (text_in 64 4 line.now) }
 {
     let mut room = [0u8; 64];
-    let ciphertext = read_field(line, CIPHERTEXT, &mut room);
+    let count = read_field(line, CIPHERTEXT, &mut room);
+    let ciphertext = front(&room, count);
     is_opened_by_octets(line, additional, ciphertext)
         & is_checked_by_words(line, additional, ciphertext)
         & is_decrypted_by_words(line, ciphertext)
@@ -45,5 +46,7 @@ fn is_opened_with(line: &[u8], additional: &[u8]) -> bool
 pub fn is_opened(line: &[u8]) -> bool
     ensures { result ≡ true → OpenedAs line.now }
 {
-    is_opened_with(line, read_field(line, ADDITIONAL, &mut [0; 96]))
+    let mut additional = [0u8; 96];
+    let count = read_field(line, ADDITIONAL, &mut additional);
+    is_opened_with(line, front(&additional, count))
 }

@@ -37,7 +37,8 @@ fn is_sealed_with(line: &[u8], additional: &[u8]) -> bool
     ensures { result ≡ true → SealedFrom line.now additional.now (text_in 64 2 line.now) }
 {
     let mut room = [0u8; 64];
-    let plain = read_field(line, PLAINTEXT, &mut room);
+    let count = read_field(line, PLAINTEXT, &mut room);
+    let plain = front(&room, count);
     is_sealed_by_octets(line, additional, plain) & is_sealed_by_words(line, additional, plain)
 }
 
@@ -45,5 +46,7 @@ fn is_sealed_with(line: &[u8], additional: &[u8]) -> bool
 pub fn is_sealed(line: &[u8]) -> bool
     ensures { result ≡ true → SealedAs line.now }
 {
-    is_sealed_with(line, read_field(line, ADDITIONAL, &mut [0; 96]))
+    let mut additional = [0u8; 96];
+    let count = read_field(line, ADDITIONAL, &mut additional);
+    is_sealed_with(line, front(&additional, count))
 }

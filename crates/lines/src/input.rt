@@ -26,13 +26,14 @@ pub fn read_line(from: &mut impl Read, line: &mut [u8]) -> io::Result<usize>
 }
 
 // Calls `each` with the number of every line, from 0, and its text, which is read to the front of `line`, until there are no more or `each`
-// answers false.
+// answers false. Of what is read no contract can say anything; `line` keeps its length, also where reading or `each` fails.
 pub fn each_line<F: FnMut(u64, &[u8]) -> io::Result<bool>>(
     from: &mut impl Read,
     line: &mut [u8],
     mut each: F,
 ) -> io::Result<()>
     requires { (each : F) (n : _) (line : _) → F.pre each n line }
+    ensures { length line.new ≡ length line.old }
 {
     // A proved loop has to end, and nothing says that an input does: the bound is a number of lines that none has.
     for n in 0..u64::MAX {

@@ -30,12 +30,15 @@ pub fn block_at(s: &[u8], at: usize) -> [u8; 16]
     block
 }
 
-// A piece to the front of `out`, whose rest stays. What has no room is not written.
+// A piece to the front of `out`, whose rest stays. What has no room is not written. An octet a turn: of `copy_from_slice` the compiler makes a
+// call of `memmove`, which the archive for C would then need from outside.
 pub fn put(piece: &[u8], out: &mut [u8])
     ensures { out.new ≡ fronted piece.now out.old }
 {
     if piece.len() <= out.len() {
-        out[..piece.len()].copy_from_slice(piece);
+        for i in 0..piece.len() {
+            out[i] = piece[i];
+        }
     }
 }
 

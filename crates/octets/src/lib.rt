@@ -12,11 +12,12 @@ ghost use Rattle.octets.specs.Same.{same};
 pub use adding::xors;
 pub use copying::{block_at, copy_at, octet_behind, put, put_behind};
 
-// Octet i, and 0 past the end.
+// Octet i, and 0 past the end. No `get`: it answers by a tag with a pointer behind it, and where a pair of these is read at once, `tools/port` has
+// to change the module for every processor of 32 bits.
 pub fn octet_at(s: &[u8], i: usize) -> u8
     ensures { result ≡ octet s.now i }
 {
-    s.get(i).copied().unwrap_or(0)
+    if i < s.len() { s[i] } else { 0 }
 }
 
 // The number that the two octets at a place make, the high one first. Past the end octets are 0.

@@ -1,22 +1,23 @@
 // The fields of a line, each in hexadecimal.
-ghost use Rattle.std.specs.Prelude.{◌≡◌, true, length};
+ghost use Rattle.std.specs.Prelude.{◌≡◌, true, length, take, drop};
 ghost use Rattle.vector_lines.specs.Spelled.{text_in, octets_in, whole_field, spelled_in, empty_field};
 
-use lines::{field, read_octets};
+use lines::{field, front, read_octets};
 
-// The octets that field n spells, as many as there is room for, which are read to the front of `room`.
-pub fn read_field<'a>(line: &[u8], n: usize, room: &'a mut [u8]) -> &'a [u8]
-    ensures { result.now ≡ text_in (length room.old) n line.now }
+// Reads the octets that field n spells, as many as there is room for, to the front of `room`, and answers how many they are; the others stay.
+pub fn read_field(line: &[u8], n: usize, room: &mut [u8]) -> usize
+    ensures octets { take result room.new ≡ text_in (length room.old) n line.now }
+    ensures count { result ≡ length (text_in (length room.old) n line.now) }
+    ensures others { drop result room.new ≡ drop result room.old }
 {
-    let count = read_octets(field(line, n), room);
-    &room[..count]
+    read_octets(field(line, n), room)
 }
 
 // Whether field n spells octets, at most 96, and nothing else.
 pub fn is_whole(line: &[u8], n: usize) -> bool
     ensures { result ≡ whole_field n line.now }
 {
-    field(line, n).len() == 2 * read_field(line, n, &mut [0; 96]).len()
+    field(line, n).len() == 2 * read_field(line, n, &mut [0; 96])
 }
 
 // Whether field n spells that many octets and nothing else.
@@ -30,7 +31,9 @@ pub fn spells(line: &[u8], n: usize, count: usize) -> bool
 pub fn is_field(line: &[u8], n: usize, octets: &[u8]) -> bool
     ensures { (result ≡ true → (whole_field n line.now ≡ true) × (octets.now ≡ text_in 96 n line.now)) × (whole_field n line.now ≡ true → octets.now ≡ text_in 96 n line.now → result ≡ true) }
 {
-    is_whole(line, n) & (read_field(line, n, &mut [0; 96]) == octets)
+    let mut room = [0u8; 96];
+    let count = read_field(line, n, &mut room);
+    is_whole(line, n) & (front(&room, count) == octets)
 }
 
 pub fn is_empty(line: &[u8], n: usize) -> bool
